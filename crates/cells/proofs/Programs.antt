@@ -1,0 +1,81 @@
+-- The laws of a program: filling a page buffer, and ANDing it into its page, said over the page's size. Assumes nothing.
+use Prim.Native.Nat.{ℕ, zero, suc, _+_, _-_, _%_, _<_, _≤_}
+use mathlib.Core.Bool.{Bool, true, false, true≢false, cond, _||_}
+use mathlib.Core.List.{List}
+use mathlib.Core.Path.{_≡_, refl, sym, ap, _∙_}
+use native.Mathlib.Nat.{mod-eq-of-lt}
+use native.Mathlib.Omega.{arith}
+use borrow.Author.Tests.{eq-eqb, ne-eqb}
+use lib.Bits.{bitAnd, and-mask}
+use lib.Dec.{eqb}
+use lib.ListN.{length, getD, set, drop, replicate, length-replicate, getD-replicate}
+use lib.Seq.{getD-drop}
+use Rattle.cells.specs.Each.{Cell, each, over}
+use Rattle.cells.specs.Range.{range}
+use Rattle.cells.specs.Page.{aims, covered, last, loaded, anded, aimedAt, programmed}
+use Rattle.cells.proofs.Places.{each-alike, each-set, getD-each, is-each, length-each}
+use Rattle.cells.proofs.Runs.{range-of}
+
+-- a store of the source's byte i at the next wrapped offset loads one data byte more
+pub loads-on : (size start from : ℕ) (source : List ℕ) (i : ℕ) (xs : List ℕ) → from ≤ i → (start + (i - from)) % size < length xs
+    → set (each (last size start (drop from source) (i - from)) xs) ((start + (i - from)) % size) (getD source i 0)
+    ≡ each (last size start (drop from source) (i + 1 - from)) xs
+unfolding last
+loads-on size start from source i xs p l =
+    let more : i + 1 - from ≡ suc (i - from) = omega arith in
+    let back : from + (i - from) ≡ i = omega arith in
+    rw more
+    (each-set (last size start (drop from source) (i - from)) (last size start (drop from source) (suc (i - from))) xs
+    ((start + (i - from)) % size) (getD source i 0) l
+    (rw (eq-eqb ((start + (i - from)) % size) ((start + (i - from)) % size) refl, getD-drop from source (i - from) 0, back))
+    (λ k d. rw (ne-eqb ((start + (i - from)) % size) k (λ e. d (sym e)))))
+
+-- with nothing loaded yet the buffer is as it was
+pub none-loaded : (size start : ℕ) (sent : List ℕ) (n : ℕ) (xs : List ℕ) → n ≡ 0 → xs ≡ each (last size start sent n) xs
+unfolding last
+none-loaded size start sent n xs e = rw e (is-each (last size start sent 0) xs xs refl (λ k l. refl))
+
+neither : (s t : Bool) → (s || t) ≡ false → (s ≡ false) × (t ≡ false)
+neither true t e = absurd (true≢false e)
+neither false t e = (refl, e)
+
+-- an offset that no data byte aims at keeps what it had
+pub last-uncovered : (size start : ℕ) (sent : List ℕ) (n p x : ℕ) → covered size start n p ≡ false → last size start sent n p x ≡ x
+unfolding last covered
+last-uncovered size start sent zero p x e = refl
+last-uncovered size start sent (suc n) p x e =
+    let w : (aims size start n p ≡ false) × (covered size start n p ≡ false) = neither (aims size start n p) (covered size start n p) e in
+    rw (w .0) (last-uncovered size start sent n p x (w .1))
+
+-- FFh changes no byte
+and-FF : (x : ℕ) → x < 256 → bitAnd x 255 ≡ x
+and-FF x h = and-mask x 8 ∙ mod-eq-of-lt h
+
+-- The page buffer of FFh, loaded and ANDed into its page, is the program: where no data byte aims, the buffer's FFh changes nothing.
+module _ (size page start : ℕ) (sent buffer xs : List ℕ) (filling : buffer ≡ each (loaded size start sent) (replicate size 255))
+    (bytes : (k : ℕ) → getD xs k 0 < 256) where
+  long : length buffer ≡ size
+  long = ap length filling ∙ (length-each (loaded size start sent) (replicate size 255) ∙ length-replicate size 255)
+
+  holds : (p : ℕ) → p < size → getD buffer p 0 ≡ last size start sent (length sent) p 255
+  holds p l =
+      ap (λ (b : List ℕ). getD b p 0) filling ∙
+      (getD-each (loaded size start sent) (replicate size 255) p 0 (rw (length-replicate {A = ℕ} size 255) l) ∙
+      ap (last size start sent (length sent) p) (getD-replicate size p 255 0 l))
+
+  aimed : (k x : ℕ) → x < 256 → k - page < size → (b : Bool) → covered size start (length sent) (k - page) ≡ b
+      → bitAnd x (getD buffer (k - page) 0) ≡ cond b (bitAnd x (last size start sent (length sent) (k - page) 255)) x
+  aimed k x h l true c = rw (holds (k - page) l)
+  aimed k x h l false c = rw (holds (k - page) l, last-uncovered size start sent (length sent) (k - page) 255 c) (and-FF x h)
+
+  placed : (k x : ℕ) → x < 256 → (b : Bool) → range page (page + size) k ≡ b → anded page buffer k x ≡ programmed size page start sent k x
+  unfolding over
+  placed k x h false r = rw (long, r)
+  placed k x h true r =
+      let w : (page ≤ k) × (k < page + size) = range-of page (page + size) k r in
+      rw (long, r) (aimed k x h (omega arith) (covered size start (length sent) (k - page)) refl)
+
+  pub buffered : each (anded page buffer) xs ≡ each (programmed size page start sent) xs
+  buffered =
+      each-alike (anded page buffer) (programmed size page start sent) xs
+      (λ k l. placed k (getD xs k 0) (bytes k) (range page (page + size) k) refl)

@@ -1,0 +1,40 @@
+// Copying out of a memory, in straight runs.
+ghost use mathlib.Core.Path.{_≡_};
+ghost use Prim.Native.Nat.{_+_, _-_, _≤_, _<_, min};
+ghost use lib.ListN.{length};
+ghost use Rattle.cells.specs.Each.{each};
+ghost use Rattle.cells.specs.Range.{copied, run};
+
+// One straight run: the output from `from` up to `to` receives the memory from `start` on.
+fn copy_run(output: &mut [u8], from: usize, to: usize, memory: &[u8], start: usize)
+    requires { ⌜ (from ≤ to) × (to ≤ length (now output)) × (start + (to - from) ≤ length (now memory)) ⌝ }
+    ensures { λ _. ⌜ now (output .exit) ≡ each (run from to (now (memory .entry)) start) (now (output .entry)) ⌝ }
+{
+    let mut i = from;
+    while i < to {
+        output[i] = memory[start + (i - from)];
+        i += 1;
+    }
+}
+
+// The lesser of two numbers.
+fn lesser(a: usize, b: usize) -> usize
+    ensures { λ r. ⌜ r ≡ min a b ⌝ }
+{
+    if a < b { a } else { b }
+}
+
+// The output from `from` up to `to` receives the memory from `start` on; past its last byte it goes on at 0.
+pub fn copy_out(output: &mut [u8], from: usize, to: usize, memory: &[u8], start: usize)
+    requires { ⌜ (from ≤ to) × (to ≤ length (now output)) × (start < length (now memory)) ⌝ }
+    ensures { λ _. ⌜ now (output .exit) ≡ each (copied from to (now (memory .entry)) start) (now (output .entry)) ⌝ }
+{
+    let mut at = from;
+    let mut next = start;
+    while at < to {
+        let end = at + lesser(to - at, memory.len() - next);
+        copy_run(output, at, end, memory, next);
+        at = end;
+        next = 0;
+    }
+}
