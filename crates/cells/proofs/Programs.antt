@@ -1,9 +1,10 @@
 -- The laws of a program: filling a page buffer, and ANDing it into its page, said over the page's size. Assumes nothing.
 use Prim.Native.Nat.{ℕ, zero, suc, _+_, _-_, _%_, _<_, _≤_}
-use mathlib.Core.Bool.{Bool, true, false, true≢false, cond, _||_}
+use mathlib.Core.Bool.{Bool, true, false, true≢false, false≢true, cond, _||_, or-true}
 use mathlib.Core.List.{List}
 use mathlib.Core.Path.{_≡_, refl, sym, ap, _∙_}
-use native.Mathlib.Nat.{mod-eq-of-lt}
+use native.Mathlib.Decide.{ℕ-discrete}
+use native.Mathlib.Nat.{add-zero, add-suc, add-assoc, not-suc-le-zero, mod-lt, mod-eq-of-lt, mod-add-mod, add-mod-mod, add-mod-right}
 use native.Mathlib.Omega.{arith}
 use borrow.Author.Tests.{eq-eqb, ne-eqb}
 use lib.Bits.{bitAnd, and-mask}
@@ -79,3 +80,51 @@ module _ (size page start : ℕ) (sent buffer xs : List ℕ) (filling : buffer �
   buffered =
       each-alike (anded page buffer) (programmed size page start sent) xs
       (λ k l. placed k (getD xs k 0) (bytes k) (range page (page + size) k) refl)
+
+-- The data in two parts: the second part replaces what the first one left.
+last-split : (size start : ℕ) (sent : List ℕ) (m n p x : ℕ) → last size start sent (m + n) p x ≡ last size (start + m) (drop m sent) n p (last size start sent m p x)
+unfolding last
+last-split size start sent m zero p x = rw (add-zero m)
+last-split size start sent m (suc n) p x = rw (add-suc m n, add-assoc start m n, getD-drop m sent n 0, last-split size start sent m n p x)
+
+-- what the buffer held does not matter where a data byte aims
+last-covered : (size start : ℕ) (sent : List ℕ) (n p x y : ℕ) → covered size start n p ≡ true → last size start sent n p x ≡ last size start sent n p y
+unfolding last covered
+last-covered size start sent zero p x y e = absurd (false≢true e)
+last-covered size start sent (suc n) p x y e = by (aims size start n p) (last-covered size start sent n p x y) e
+  where
+    by : (b : Bool) → (covered size start n p ≡ true → last size start sent n p x ≡ last size start sent n p y) → (b || covered size start n p) ≡ true
+        → cond b (getD sent n 0) (last size start sent n p x) ≡ cond b (getD sent n 0) (last size start sent n p y)
+    by true ih c = refl
+    by false ih c = ih c
+
+covered-at : (size start n j : ℕ) → j < n → covered size start n ((start + j) % size) ≡ true
+unfolding covered
+covered-at size start zero j l = absurd (not-suc-le-zero l)
+covered-at size start (suc n) j l = by (ℕ-discrete j n) (covered-at size start n j)
+  where
+    by : Dec (j ≡ n) → (j < n → covered size start n ((start + j) % size) ≡ true) → covered size start (suc n) ((start + j) % size) ≡ true
+    by (yes e) ih = rw (e, eq-eqb ((start + n) % size) ((start + n) % size) refl)
+    by (no e) ih = rw (ih (omega arith)) (or-true (aims size start n ((start + j) % size)))
+
+-- as many data bytes as the page has offsets aim at each of them
+all-covered : (size start p : ℕ) → p < size → covered size start size p ≡ true
+all-covered size start p l =
+    let s : ℕ = start % size in
+    let b : s < size = mod-lt start (omega arith) in
+    let j : ℕ = (p + (size - s)) % size in
+    let e : (start + j) % size ≡ p =
+    add-mod-mod start (p + (size - s)) size ∙
+    (sym (mod-add-mod start size (p + (size - s))) ∙
+    (ap (λ (n : ℕ). n % size) (omega arith) ∙ (add-mod-right p size ∙ mod-eq-of-lt l))) in
+    rw e at (covered-at size start size j (mod-lt (p + (size - s)) (omega arith)))
+
+-- only the last data bytes count, as many as the page has offsets
+pub only-the-last : (size start : ℕ) (sent : List ℕ) (n p x : ℕ) → size ≤ n → p < size
+    → last size start sent n p x ≡ last size (start + (n - size)) (drop (n - size) sent) size p x
+only-the-last size start sent n p x h l =
+    let e : n ≡ n - size + size = omega arith in
+    ap (λ (m : ℕ). last size start sent m p x) e ∙
+    (last-split size start sent (n - size) size p x ∙
+    last-covered size (start + (n - size)) (drop (n - size) sent) size p (last size start sent (n - size) p x) x
+    (all-covered size (start + (n - size)) p l))
