@@ -1,6 +1,6 @@
 -- The laws of a range of places: a loop that stores at one place after the other, and runs side by side. Assumes nothing.
 use Prim.Native.Nat.{ℕ, suc, _+_, _<_, _≤_}
-use mathlib.Core.Bool.{Bool, true, false, _&&_, and-false}
+use mathlib.Core.Bool.{Bool, true, false, and-false, and-eq-true-iff}
 use mathlib.Core.List.{List}
 use mathlib.Core.Logic.{_≢_}
 use mathlib.Core.Path.{_≡_, refl, sym, ap, _∙_}
@@ -23,13 +23,9 @@ range-before a b k p = rw (lt-leb a k p)
 pub range-behind : (a b k : ℕ) → b ≤ k → range a b k ≡ false
 range-behind a b k p = rw (le-ltb k b p) (and-false (leb a k))
 
-both : (s t : Bool) → (s && t) ≡ true → (s ≡ true) × (t ≡ true)
-both true t e = (refl, e)
-both false t e = let z : _≡_ {A = ℕ} 0 1 = cc in absurd (omega arith)
-
 -- what a place in the range knows
 pub range-of : (a b k : ℕ) → range a b k ≡ true → (a ≤ k) × (k < b)
-range-of a b k e = let w : (leb a k ≡ true) × (ltb k b ≡ true) = both (leb a k) (ltb k b) e in (leb-true a k (w .0), ltb-true k b (w .1))
+range-of a b k e = let w : (leb a k ≡ true) × (ltb k b ≡ true) = and-eq-true-iff (leb a k) (ltb k b) .0 e in (leb-true a k (w .0), ltb-true k b (w .1))
 
 -- one place more makes no difference elsewhere
 range-more : (a i k : ℕ) → k ≢ i → range a (i + 1) k ≡ range a i k

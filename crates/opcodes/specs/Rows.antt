@@ -1,0 +1,61 @@
+-- The table of opcodes: of each the fewest bytes that it needs, the first position that a read drives and the most positions that it
+-- drives, whether it needs a byte boundary, the latch, whether a busy part answers it, and what it does. Assumes nothing.
+use Prim.Native.Nat.{ℕ, _^_, _-_}
+use mathlib.Core.Bool.{Bool, true, false, cond}
+use mathlib.Core.List.{List, [], _∷_}
+use lib.Dec.{eqb}
+use Rattle.opcodes.specs.declared.Row.{Row}
+use Rattle.opcodes.specs.declared.Command.{Command}
+use Rattle.opcodes.specs.declared.Command.the-variants.{Unlisted, Reads, Orders, Works}
+use Rattle.opcodes.specs.declared.Source.the-variants.{Array, Register, Status, Identity, Legacy}
+use Rattle.opcodes.specs.declared.Order.the-variants.{Enable, Disable, Deep, UltraDeep, Resume, Reset}
+use Rattle.opcodes.specs.declared.Region.the-variants.{Page, Small, Large, Chip}
+use Rattle.opcodes.specs.declared.Work.the-variants.{Program, Erase, Otp, WriteStatus, WriteStatusTwo}
+
+abbrev row : ℕ → ℕ → ℕ → ℕ → Bool → Bool → Bool → Command → Row
+row code bytes first most boundary latch busy command =
+    record { code = code; bytes = bytes; first = first; most = most; boundary = boundary; latch = latch; busy = busy; command = command }
+
+-- as many positions as the frame has
+abbrev endless : ℕ
+endless = 2 ^ 64 - 1
+
+unfoldable pub rows : List Row
+rows =
+    --  code bytes first most boundary latch busy
+    row 0x03 1 4 endless false false false (Reads Array) ∷
+    row 0x0B 1 5 endless false false false (Reads Array) ∷
+    row 0x77 1 6 endless false false false (Reads Register) ∷
+    row 0x05 1 1 endless false false true (Reads Status) ∷
+    row 0x9F 1 1 4 false false false (Reads Identity) ∷
+    row 0x15 1 1 2 false false false (Reads Legacy) ∷
+    row 0x06 1 0 0 true false false (Orders Enable) ∷
+    row 0x04 1 0 0 true false false (Orders Disable) ∷
+    row 0xB9 1 0 0 true false false (Orders Deep) ∷
+    row 0x79 1 0 0 true false false (Orders UltraDeep) ∷
+    row 0xAB 1 0 0 true false false (Orders Resume) ∷
+    row 0xF0 2 0 0 true false true (Orders Reset) ∷
+    row 0x02 5 0 0 true true false (Works Program) ∷
+    row 0x81 4 0 0 true true false (Works (Erase Page)) ∷
+    row 0x20 4 0 0 true true false (Works (Erase Small)) ∷
+    row 0x52 4 0 0 true true false (Works (Erase Large)) ∷
+    row 0xD8 4 0 0 true true false (Works (Erase Large)) ∷
+    row 0x60 1 0 0 true true false (Works (Erase Chip)) ∷
+    row 0xC7 1 0 0 true true false (Works (Erase Chip)) ∷
+    row 0x62 1 0 0 true true false (Works (Erase Chip)) ∷
+    row 0x9B 5 0 0 true true false (Works Otp) ∷
+    row 0x01 2 0 0 true true false (Works WriteStatus) ∷
+    row 0x31 2 0 0 true true false (Works WriteStatusTwo) ∷
+    []
+
+-- an opcode that is not listed
+abbrev pub unlisted : ℕ → Row
+unlisted code = row code 1 0 0 false false false Unlisted
+
+-- the first row of the list with that opcode
+unfoldable pub lookup : List Row → ℕ → Row
+lookup [] code = unlisted code
+lookup (r ∷ rs) code = cond (eqb (r .code) code) r (lookup rs code)
+
+unfoldable pub rowOf : ℕ → Row
+rowOf code = lookup rows code
