@@ -8,7 +8,7 @@ use Rattle.opcodes.specs.declared.Row.{Row}
 use Rattle.opcodes.specs.declared.Command.{Command}
 use Rattle.opcodes.specs.declared.Command.the-variants.{Unlisted, Reads, Orders, Works}
 use Rattle.opcodes.specs.declared.Source.the-variants.{Array, Register, Status, Identity, Legacy}
-use Rattle.opcodes.specs.declared.Order.the-variants.{Enable, Disable, Deep, UltraDeep, Resume, Reset}
+use Rattle.opcodes.specs.declared.Order.the-variants.{Enable, Disable, DeepPowerDown, UltraDeepPowerDown, Resume, Reset}
 use Rattle.opcodes.specs.declared.Region.the-variants.{Page, Small, Large, Chip}
 use Rattle.opcodes.specs.declared.Work.the-variants.{Program, Erase, Otp, WriteStatus, WriteStatusTwo}
 
@@ -31,8 +31,8 @@ rows =
     row 0x15 1 1 2 false false false (Reads Legacy) ∷
     row 0x06 1 0 0 true false false (Orders Enable) ∷
     row 0x04 1 0 0 true false false (Orders Disable) ∷
-    row 0xB9 1 0 0 true false false (Orders Deep) ∷
-    row 0x79 1 0 0 true false false (Orders UltraDeep) ∷
+    row 0xB9 1 0 0 true false false (Orders DeepPowerDown) ∷
+    row 0x79 1 0 0 true false false (Orders UltraDeepPowerDown) ∷
     row 0xAB 1 0 0 true false false (Orders Resume) ∷
     row 0xF0 2 0 0 true false true (Orders Reset) ∷
     row 0x02 5 0 0 true true false (Works Program) ∷

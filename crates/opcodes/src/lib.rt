@@ -15,8 +15,8 @@ pub enum Source {
 pub enum Order {
     Enable,
     Disable,
-    Deep,
-    UltraDeep,
+    DeepPowerDown,
+    UltraDeepPowerDown,
     Resume,
     Reset,
 }
@@ -150,7 +150,7 @@ const ROWS: [Row; 23] = [
         boundary: true,
         latch: false,
         busy: false,
-        command: Command::Orders(Order::Deep),
+        command: Command::Orders(Order::DeepPowerDown),
     },
     Row {
         code: 0x79,
@@ -160,7 +160,7 @@ const ROWS: [Row; 23] = [
         boundary: true,
         latch: false,
         busy: false,
-        command: Command::Orders(Order::UltraDeep),
+        command: Command::Orders(Order::UltraDeepPowerDown),
     },
     Row {
         code: 0xAB,

@@ -1,0 +1,15 @@
+-- `sheet::judge::begun` meets its contract. Assumes nothing.
+use borrow.Author.Needs.{needs}
+use Rattle.sheet.proofs.judge.begun.Statement.{statement}
+use Rattle.sheet.proofs.judge.begun.Tie as tie
+
+returns : tie.Need-returns
+returns c = rw (c .working .ensures, c .before .dropped .ensures)
+
+pub begun-spec : {M : Type 1} → statement M
+begun-spec =
+    tie.close
+    (tie.spec
+    (λ c κs. search needs)
+    (λ c κs. search needs)
+    returns)

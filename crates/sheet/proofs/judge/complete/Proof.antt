@@ -1,0 +1,14 @@
+-- `sheet::judge::complete` meets its contract. Assumes nothing.
+use borrow.Author.Needs.{needs}
+use Rattle.sheet.proofs.judge.complete.Statement.{statement}
+use Rattle.sheet.proofs.judge.complete.Tie as tie
+
+returns : tie.Need-returns
+returns c = rw (c .before .on-boundary .ensures)
+
+pub complete-spec : {M : Type 1} → statement M
+complete-spec =
+    tie.close
+    (tie.spec
+    (λ c κs. search needs)
+    returns)

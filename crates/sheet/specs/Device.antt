@@ -1,0 +1,81 @@
+-- The device record: what it holds is declared in src/device.rt; here is what each step makes of it. Assumes nothing.
+use Prim.Native.Nat.{ℕ, _-_}
+use mathlib.Core.Bool.{Bool, true, false, cond, not, _&&_, _||_}
+use lib.Dec.{ltb}
+use Rattle.sheet.specs.declared.device.Device.{Device}
+use Rattle.sheet.specs.declared.device.Mode.{Mode}
+use Rattle.sheet.specs.declared.device.Mode.the-variants.{Awake, Deep, UltraDeep}
+use Rattle.sheet.specs.Bits.{bit}
+
+abbrev device : Bool → Bool → Bool → Bool → Bool → Mode → ℕ → Device
+device bpl bp0 wel rste used mode busy = record { bpl = bpl; bp0 = bp0; wel = wel; rste = rste; used = used; mode = mode; busy = busy }
+
+-- a fresh record takes BPL, BP0 and the OTP-used mark from the caller; the rest is clear, awake, 0 ticks
+abbrev pub fresh : Bool → Bool → Bool → Device
+fresh bpl bp0 used = device bpl bp0 false false used Awake 0
+
+-- the most ticks that an operation may take
+abbrev pub longest : ℕ
+longest = 60000000
+
+abbrev pub awake : Mode → Bool
+awake Awake = true
+awake Deep = false
+awake UltraDeep = false
+
+abbrev pub deep : Mode → Bool
+deep Awake = false
+deep Deep = true
+deep UltraDeep = false
+
+abbrev pub ultraDeep : Mode → Bool
+ultraDeep Awake = false
+ultraDeep Deep = false
+ultraDeep UltraDeep = true
+
+-- ticks are left
+abbrev pub isBusy : Device → Bool
+isBusy d = ltb 0 (d .busy)
+
+-- refusal 6: busy ticks left exceed 60,000,000, or are above 0 while the mode is not awake
+abbrev pub unsound : Device → Bool
+unsound d = ltb longest (d .busy) || (isBusy d && not (awake (d .mode)))
+
+-- the elapsed ticks come off the busy ticks, not below 0
+abbrev pub passed : Device → ℕ → Device
+passed d ticks = device (d .bpl) (d .bp0) (d .wel) (d .rste) (d .used) (d .mode) (d .busy - ticks)
+
+-- WEL becomes 1, or 0
+abbrev pub latched : Device → Device
+latched d = device (d .bpl) (d .bp0) true (d .rste) (d .used) (d .mode) (d .busy)
+
+abbrev pub dropped : Device → Device
+dropped d = device (d .bpl) (d .bp0) false (d .rste) (d .used) (d .mode) (d .busy)
+
+-- the mode changes
+abbrev pub moved : Device → Mode → Device
+moved d mode = device (d .bpl) (d .bp0) (d .wel) (d .rste) (d .used) mode (d .busy)
+
+-- woken from ultra-deep: WEL and RSTE become 0, BPL and BP0 stay
+abbrev pub woken : Device → Device
+woken d = device (d .bpl) (d .bp0) false false (d .used) Awake (d .busy)
+
+-- busy for so many ticks
+abbrev pub working : Device → ℕ → Device
+working d ticks = device (d .bpl) (d .bp0) (d .wel) (d .rste) (d .used) (d .mode) ticks
+
+-- reset: busy ticks and WEL become 0, all else stays
+abbrev pub reset : Device → Device
+reset d = device (d .bpl) (d .bp0) false (d .rste) (d .used) (d .mode) 0
+
+-- the OTP-used mark is set
+abbrev pub marked : Device → Device
+marked d = device (d .bpl) (d .bp0) (d .wel) (d .rste) true (d .mode) (d .busy)
+
+-- status byte 1 written: BPL takes bit 7; BP0 takes bit 2 if BPL is 0, and stays if BPL is 1
+abbrev pub written : Device → ℕ → Device
+written d byte = device (bit 7 byte) (cond (d .bpl) (d .bp0) (bit 2 byte)) (d .wel) (d .rste) (d .used) (d .mode) (d .busy)
+
+-- status byte 2 written: RSTE takes bit 4
+abbrev pub enabled : Device → ℕ → Device
+enabled d byte = device (d .bpl) (d .bp0) (d .wel) (bit 4 byte) (d .used) (d .mode) (d .busy)

@@ -1,0 +1,5 @@
+pub mod Bits
+pub mod Device
+pub mod Settings
+pub mod Status
+pub mod Judging
