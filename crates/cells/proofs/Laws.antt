@@ -9,7 +9,9 @@ use native.Mathlib.Omega.{arith}
 use lib.Arith.{bin-ind}
 use lib.Bits.{bitAnd, and-step, and-comm, and-self}
 use lib.ListN.{getD}
-use Rattle.cells.specs.Each.{Cell, each, over}
+use Rattle.cells.specs.Each.{Cell, each, over, stored, anded}
+use Rattle.cells.specs.Page.{programmed}
+use Rattle.cells.specs.Range.{range, erased}
 use Rattle.cells.proofs.Places.{each-alike, each-each}
 
 half : (a b : ℕ) → bitAnd a b / 2 ≡ bitAnd (a / 2) (b / 2)
@@ -26,27 +28,19 @@ and-assoc a =
     (arith, and-step (bitAnd n b) c, and-step n (bitAnd b c), ih (b / 2) (c / 2), odd n b, odd b c, ap (λ (h : ℕ). bitAnd h (c / 2)) (half n b), ap (bitAnd (n / 2)) (half b c)))
     a
 
--- a program: the covered bytes are ANDed with what is programmed at their places
-abbrev pub program : (ℕ → Bool) → (ℕ → ℕ) → Cell
-program covers value = over covers (λ k x. bitAnd x (value k))
-
--- a store: the covered bytes are replaced, as by an erase
-abbrev pub store : (ℕ → Bool) → (ℕ → ℕ) → Cell
-store covers value = over covers (λ k x. value k)
-
 exchanged : (x a b : ℕ) → bitAnd (bitAnd x a) b ≡ bitAnd (bitAnd x b) a
 exchanged x a b = and-assoc x a b ∙ (ap (bitAnd x) (and-comm a b) ∙ sym (and-assoc x b a))
 
 -- two programs may change places
-pub programs-commute : (c d : ℕ → Bool) (u v : ℕ → ℕ) (xs : List ℕ) → each (program c u) (each (program d v) xs) ≡ each (program d v) (each (program c u) xs)
+pub anded-commute : (c d : ℕ → Bool) (u v : ℕ → ℕ) (xs : List ℕ) → each (anded c u) (each (anded d v) xs) ≡ each (anded d v) (each (anded c u) xs)
 unfolding over
-programs-commute c d u v xs =
-    each-each (program c u) (program d v) xs ∙
-    (each-alike (λ k x. program c u k (program d v k x)) (λ k x. program d v k (program c u k x)) xs
+anded-commute c d u v xs =
+    each-each (anded c u) (anded d v) xs ∙
+    (each-alike (λ k x. anded c u k (anded d v k x)) (λ k x. anded d v k (anded c u k x)) xs
     (λ k l. by k (getD xs k 0) (c k) (d k) refl refl) ∙
-    sym (each-each (program d v) (program c u) xs))
+    sym (each-each (anded d v) (anded c u) xs))
   where
-    by : (k x : ℕ) (s t : Bool) → c k ≡ s → d k ≡ t → program c u k (program d v k x) ≡ program d v k (program c u k x)
+    by : (k x : ℕ) (s t : Bool) → c k ≡ s → d k ≡ t → anded c u k (anded d v k x) ≡ anded d v k (anded c u k x)
     by k x true true p q = rw (p, q) (exchanged x (v k) (u k))
     by k x true false p q = rw (p, q)
     by k x false true p q = rw (p, q)
@@ -64,21 +58,38 @@ twice covers f xs h =
     by k x false p = rw p
 
 -- a program twice is once
-pub program-twice : (covers : ℕ → Bool) (value : ℕ → ℕ) (xs : List ℕ) → each (program covers value) (each (program covers value) xs) ≡ each (program covers value) xs
-program-twice covers value xs = twice covers (λ k x. bitAnd x (value k)) xs (λ k x. and-assoc x (value k) (value k) ∙ ap (bitAnd x) (and-self (value k)))
+pub anded-twice : (covers : ℕ → Bool) (value : ℕ → ℕ) (xs : List ℕ) → each (anded covers value) (each (anded covers value) xs) ≡ each (anded covers value) xs
+anded-twice covers value xs = twice covers (λ k x. bitAnd x (value k)) xs (λ k x. and-assoc x (value k) (value k) ∙ ap (bitAnd x) (and-self (value k)))
 
 -- an erase twice is once
-pub store-twice : (covers : ℕ → Bool) (value : ℕ → ℕ) (xs : List ℕ) → each (store covers value) (each (store covers value) xs) ≡ each (store covers value) xs
-store-twice covers value xs = twice covers (λ k x. value k) xs (λ k x. refl)
+pub stored-twice : (covers : ℕ → Bool) (value : ℕ → ℕ) (xs : List ℕ) → each (stored covers value) (each (stored covers value) xs) ≡ each (stored covers value) xs
+stored-twice covers value xs = twice covers (λ k x. value k) xs (λ k x. refl)
 
 -- an erase undoes what came before it in its range
 pub undone : (covers : ℕ → Bool) (value : ℕ → ℕ) (f : Cell) (xs : List ℕ) → ((k x : ℕ) → covers k ≡ false → f k x ≡ x)
-    → each (store covers value) (each f xs) ≡ each (store covers value) xs
+    → each (stored covers value) (each f xs) ≡ each (stored covers value) xs
 unfolding over
 undone covers value f xs h =
-    each-each (store covers value) f xs ∙
-    each-alike (λ k x. store covers value k (f k x)) (store covers value) xs (λ k l. by k (getD xs k 0) (covers k) refl)
+    each-each (stored covers value) f xs ∙
+    each-alike (λ k x. stored covers value k (f k x)) (stored covers value) xs (λ k l. by k (getD xs k 0) (covers k) refl)
   where
-    by : (k x : ℕ) (s : Bool) → covers k ≡ s → store covers value k (f k x) ≡ store covers value k x
+    by : (k x : ℕ) (s : Bool) → covers k ≡ s → stored covers value k (f k x) ≡ stored covers value k x
     by k x true p = rw p
     by k x false p = rw p (h k x p)
+
+-- The same of the operations by name, for pages of any size at any place.
+pub programs-commute : (size page start : ℕ) (sent : List ℕ) (size′ page′ start′ : ℕ) (sent′ xs : List ℕ)
+    → each (programmed size page start sent) (each (programmed size′ page′ start′ sent′) xs)
+    ≡ each (programmed size′ page′ start′ sent′) (each (programmed size page start sent) xs)
+programs-commute size page start sent size′ page′ start′ sent′ xs = anded-commute _ _ _ _ xs
+
+pub program-twice : (size page start : ℕ) (sent xs : List ℕ)
+    → each (programmed size page start sent) (each (programmed size page start sent) xs) ≡ each (programmed size page start sent) xs
+program-twice size page start sent xs = anded-twice _ _ xs
+
+pub erase-twice : (from to : ℕ) (xs : List ℕ) → each (erased from to) (each (erased from to) xs) ≡ each (erased from to) xs
+erase-twice from to xs = stored-twice _ _ xs
+
+pub erase-undoes : (from to : ℕ) (f : Cell) (xs : List ℕ) → ((k x : ℕ) → range from to k ≡ false → f k x ≡ x)
+    → each (erased from to) (each f xs) ≡ each (erased from to) xs
+erase-undoes from to f xs h = undone (range from to) (λ k. 255) f xs h

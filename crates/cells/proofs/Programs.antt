@@ -13,7 +13,7 @@ use lib.ListN.{length, getD, set, drop, replicate, length-replicate, getD-replic
 use lib.Seq.{getD-drop}
 use Rattle.cells.specs.Each.{Cell, each, over}
 use Rattle.cells.specs.Range.{range}
-use Rattle.cells.specs.Page.{aims, covered, last, loaded, anded, aimedAt, programmed}
+use Rattle.cells.specs.Page.{aims, covered, last, loaded, andedIn, programmed}
 use Rattle.cells.proofs.Places.{each-alike, each-set, getD-each, is-each, length-each}
 use Rattle.cells.proofs.Runs.{range-of}
 
@@ -69,16 +69,16 @@ module _ (size page start : ℕ) (sent buffer xs : List ℕ) (filling : buffer �
   aimed k x h l true c = rw (holds (k - page) l)
   aimed k x h l false c = rw (holds (k - page) l, last-uncovered size start sent (length sent) (k - page) 255 c) (and-FF x h)
 
-  placed : (k x : ℕ) → x < 256 → (b : Bool) → range page (page + size) k ≡ b → anded page buffer k x ≡ programmed size page start sent k x
+  placed : (k x : ℕ) → x < 256 → (b : Bool) → range page (page + size) k ≡ b → andedIn page buffer k x ≡ programmed size page start sent k x
   unfolding over
   placed k x h false r = rw (long, r)
   placed k x h true r =
       let w : (page ≤ k) × (k < page + size) = range-of page (page + size) k r in
       rw (long, r) (aimed k x h (omega arith) (covered size start (length sent) (k - page)) refl)
 
-  pub buffered : each (anded page buffer) xs ≡ each (programmed size page start sent) xs
+  pub buffered : each (andedIn page buffer) xs ≡ each (programmed size page start sent) xs
   buffered =
-      each-alike (anded page buffer) (programmed size page start sent) xs
+      each-alike (andedIn page buffer) (programmed size page start sent) xs
       (λ k l. placed k (getD xs k 0) (bytes k) (range page (page + size) k) refl)
 
 -- The data in two parts: the second part replaces what the first one left.

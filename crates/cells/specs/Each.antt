@@ -3,6 +3,7 @@
 use Prim.Native.Nat.{ℕ, suc}
 use mathlib.Core.Bool.{Bool, cond}
 use mathlib.Core.List.{List, [], _∷_}
+use lib.Bits.{bitAnd}
 
 -- the new byte, from the place and the old byte
 abbrev pub Cell : Type 0
@@ -21,3 +22,11 @@ each f xs = eachFrom 0 f xs
 -- f at the places that are covered; the bytes elsewhere stay
 unfoldable pub over : (ℕ → Bool) → Cell → Cell
 over covers f k x = cond (covers k) (f k x) x
+
+-- the covered bytes are replaced, each by the value at its place
+abbrev pub stored : (ℕ → Bool) → (ℕ → ℕ) → Cell
+stored covers value = over covers (λ k x. value k)
+
+-- the covered bytes are ANDed, each with the value at its place
+abbrev pub anded : (ℕ → Bool) → (ℕ → ℕ) → Cell
+anded covers value = over covers (λ k x. bitAnd x (value k))

@@ -3,10 +3,9 @@
 use Prim.Native.Nat.{ℕ, zero, suc, _+_, _-_, _%_}
 use mathlib.Core.Bool.{Bool, false, cond, _&&_, _||_}
 use mathlib.Core.List.{List}
-use lib.Bits.{bitAnd}
 use lib.Dec.{eqb}
 use lib.ListN.{length, getD}
-use Rattle.cells.specs.Each.{Cell, over}
+use Rattle.cells.specs.Each.{Cell, anded}
 use Rattle.cells.specs.Range.{range}
 
 -- the i-th data byte, i from 0, aims at the offset p of a page
@@ -28,8 +27,8 @@ abbrev pub loaded : ℕ → ℕ → List ℕ → Cell
 loaded size start sent = last size start sent (length sent)
 
 -- a buffer is ANDed into the memory from `at` on
-abbrev pub anded : ℕ → List ℕ → Cell
-anded at buffer = over (range at (at + length buffer)) (λ k x. bitAnd x (getD buffer (k - at) 0))
+abbrev pub andedIn : ℕ → List ℕ → Cell
+andedIn at buffer = anded (range at (at + length buffer)) (λ k. getD buffer (k - at) 0)
 
 -- the places that a program covers: those of its page that a data byte aims at
 abbrev pub aimedAt : ℕ → ℕ → ℕ → List ℕ → ℕ → Bool
@@ -37,5 +36,4 @@ aimedAt size page start sent k = range page (page + size) k && covered size star
 
 -- a program: each place that it covers is ANDed with the last data byte that aims at it
 abbrev pub programmed : ℕ → ℕ → ℕ → List ℕ → Cell
-programmed size page start sent =
-    over (aimedAt size page start sent) (λ k x. bitAnd x (last size start sent (length sent) (k - page) 0xFF))
+programmed size page start sent = anded (aimedAt size page start sent) (λ k. last size start sent (length sent) (k - page) 0xFF)

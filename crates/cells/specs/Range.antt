@@ -4,7 +4,7 @@ use mathlib.Core.Bool.{Bool, _&&_}
 use mathlib.Core.List.{List}
 use lib.Dec.{leb, ltb}
 use lib.ListN.{length, getD}
-use Rattle.cells.specs.Each.{Cell, over}
+use Rattle.cells.specs.Each.{Cell, stored}
 
 -- the place k is in the range from `from` up to, not including, `to`
 abbrev pub range : ℕ → ℕ → ℕ → Bool
@@ -12,7 +12,7 @@ range from to k = leb from k && ltb k to
 
 -- each byte of the range becomes v
 abbrev pub filled : ℕ → ℕ → ℕ → Cell
-filled from to v = over (range from to) (λ k x. v)
+filled from to v = stored (range from to) (λ k. v)
 
 -- an erase: each byte of the range becomes FFh
 abbrev pub erased : ℕ → ℕ → Cell
@@ -20,8 +20,8 @@ erased from to = filled from to 0xFF
 
 -- the range receives the bytes of a memory from `start` on, one after the other
 abbrev pub run : ℕ → ℕ → List ℕ → ℕ → Cell
-run from to memory start = over (range from to) (λ k x. getD memory (start + (k - from)) 0)
+run from to memory start = stored (range from to) (λ k. getD memory (start + (k - from)) 0)
 
 -- the same, and past the memory's last byte it goes on at 0
 abbrev pub copied : ℕ → ℕ → List ℕ → ℕ → Cell
-copied from to memory start = over (range from to) (λ k x. getD memory ((start + (k - from)) % length memory) 0)
+copied from to memory start = stored (range from to) (λ k. getD memory ((start + (k - from)) % length memory) 0)

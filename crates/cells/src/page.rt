@@ -3,7 +3,7 @@ ghost use mathlib.Core.Path.{_≡_};
 ghost use Prim.Native.Nat.{_+_, _≤_, _<_};
 ghost use lib.ListN.{length, drop};
 ghost use Rattle.cells.specs.Each.{each};
-ghost use Rattle.cells.specs.Page.{loaded, anded, programmed};
+ghost use Rattle.cells.specs.Page.{loaded, andedIn, programmed};
 
 // The buffer receives the source from `from` on: the i-th such byte at the offset start + i, wrapped at the buffer's end.
 fn load(buffer: &mut [u8], start: usize, source: &[u8], from: usize)
@@ -21,7 +21,7 @@ fn load(buffer: &mut [u8], start: usize, source: &[u8], from: usize)
 // The buffer is ANDed into the memory from `at` on.
 fn and_in(memory: &mut [u8], at: usize, buffer: &[u8])
     requires { ⌜ at + length (now buffer) ≤ length (now memory) ⌝ }
-    ensures { λ _. ⌜ now (memory .exit) ≡ each (anded at (now (buffer .entry))) (now (memory .entry)) ⌝ }
+    ensures { λ _. ⌜ now (memory .exit) ≡ each (andedIn at (now (buffer .entry))) (now (memory .entry)) ⌝ }
 {
     let end = at + buffer.len();
     let mut i = at;

@@ -159,12 +159,10 @@ impl Device {
     }
 
     // Reset: idle, and the latch is dropped.
-    pub fn reset(mut self) -> Device
+    pub fn reset(self) -> Device
         ensures { λ r. ⌜ r ≡ reset self ⌝ }
     {
-        self.wel = false;
-        self.busy = 0;
-        self
+        self.dropped().working(0)
     }
 
     // The OTP-used mark is set.

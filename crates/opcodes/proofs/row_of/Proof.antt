@@ -20,15 +20,15 @@ loop-holds c = refl
 
 returns : tie.Need-returns Inv-loop μ-loop
 unfolding rows
-returns c = here rows (c .before .before .before .before .loop .i) _ _ (c .before .before .before .before .loop .inv) _ (c .before .before .before .loop-test .taken) (c .if1 .taken)
+returns c = here rows (c .before .before .before .before .loop .i) _ _ (c .before .before .before .before .loop .inv) _ (omega arith) (c .if1 .taken)
 
 loop-again : tie.Need-loop-again Inv-loop μ-loop
 unfolding rows
-loop-again c = next rows (c .before .before .before .before .loop .i) _ _ (c .before .before .before .before .loop .inv) _ (c .before .before .before .loop-test .taken) (c .if1 .left)
+loop-again c = next rows (c .before .before .before .before .loop .i) _ _ (c .before .before .before .before .loop .inv) _ (omega arith) (c .if1 .left)
 
 returns-2 : tie.Need-returns-2 Inv-loop μ-loop
 unfolding rows
-returns-2 c = none rows (c .before .loop .i) _ _ (c .before .loop .inv) (c .loop-test .left)
+returns-2 c = none rows (c .before .loop .i) _ _ (c .before .loop .inv) (omega arith)
 
 pub row-of-spec : {M : Type 1} → statement M
 row-of-spec =
