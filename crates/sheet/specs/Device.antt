@@ -10,7 +10,7 @@ use Rattle.sheet.specs.Bits.{bit}
 abbrev device : Bool → Bool → Bool → Bool → Bool → Mode → ℕ → Device
 device bpl bp0 wel rste used mode busy = record { bpl = bpl; bp0 = bp0; wel = wel; rste = rste; used = used; mode = mode; busy = busy }
 
--- a fresh record takes BPL, BP0 and the OTP-used mark from the caller; the rest is clear, awake, 0 ticks
+-- a fresh record: BPL, BP0 and the OTP-used mark as the caller says, all else clear, awake and idle
 abbrev pub fresh : Bool → Bool → Bool → Device
 fresh bpl bp0 used = device bpl bp0 false false used Awake 0
 
@@ -37,11 +37,11 @@ ultraDeep UltraDeep = true
 abbrev pub isBusy : Device → Bool
 isBusy d = ltb 0 (d .busy)
 
--- refusal 6: busy ticks left exceed 60,000,000, or are above 0 while the mode is not awake
+-- refusal 6: more ticks left than an operation may take, or ticks left in a part that is not awake
 abbrev pub unsound : Device → Bool
 unsound d = ltb longest (d .busy) || (isBusy d && not (awake (d .mode)))
 
--- the elapsed ticks come off the busy ticks, not below 0
+-- time passes: the busy ticks fall by the elapsed ones, down to 0 at most
 abbrev pub passed : Device → ℕ → Device
 passed d ticks = device (d .bpl) (d .bp0) (d .wel) (d .rste) (d .used) (d .mode) (d .busy - ticks)
 
@@ -56,7 +56,7 @@ dropped d = device (d .bpl) (d .bp0) false (d .rste) (d .used) (d .mode) (d .bus
 abbrev pub moved : Device → Mode → Device
 moved d mode = device (d .bpl) (d .bp0) (d .wel) (d .rste) (d .used) mode (d .busy)
 
--- woken from ultra-deep: WEL and RSTE become 0, BPL and BP0 stay
+-- woken from ultra-deep: WEL and RSTE are lost, BPL and BP0 are kept
 abbrev pub woken : Device → Device
 woken d = device (d .bpl) (d .bp0) false false (d .used) Awake (d .busy)
 
@@ -64,7 +64,7 @@ woken d = device (d .bpl) (d .bp0) false false (d .used) Awake (d .busy)
 abbrev pub working : Device → ℕ → Device
 working d ticks = device (d .bpl) (d .bp0) (d .wel) (d .rste) (d .used) (d .mode) ticks
 
--- reset: busy ticks and WEL become 0, all else stays
+-- reset: idle, and WEL 0; nothing else moves
 abbrev pub reset : Device → Device
 reset d = device (d .bpl) (d .bp0) false (d .rste) (d .used) (d .mode) 0
 
@@ -72,10 +72,10 @@ reset d = device (d .bpl) (d .bp0) false (d .rste) (d .used) (d .mode) 0
 abbrev pub marked : Device → Device
 marked d = device (d .bpl) (d .bp0) (d .wel) (d .rste) true (d .mode) (d .busy)
 
--- status byte 1 written: BPL takes bit 7; BP0 takes bit 2 if BPL is 0, and stays if BPL is 1
+-- status byte 1 written: bit 7 goes to BPL, and bit 2 to BP0 unless BPL was 1
 abbrev pub written : Device → ℕ → Device
 written d byte = device (bit 7 byte) (cond (d .bpl) (d .bp0) (bit 2 byte)) (d .wel) (d .rste) (d .used) (d .mode) (d .busy)
 
--- status byte 2 written: RSTE takes bit 4
+-- status byte 2 written: bit 4 goes to RSTE
 abbrev pub enabled : Device → ℕ → Device
 enabled d byte = device (d .bpl) (d .bp0) (d .wel) (bit 4 byte) (d .used) (d .mode) (d .busy)

@@ -44,7 +44,7 @@ aborted d = quiet Outcome.Aborted (dropped d)
 abbrev pub begun : Device → ℕ → Action → Judged
 begun d ticks action = record { device = working (dropped d) ticks; outcome = Outcome.Begun; first = 0; driven = 0; action = action }
 
--- "boundary" means a bit count divisible by 8
+-- on a boundary: whole bytes were clocked
 abbrev pub onBoundary : Facts → Bool
 onBoundary f = eqb (f .bits % 8) 0
 
@@ -52,7 +52,7 @@ onBoundary f = eqb (f .bits % 8) 0
 abbrev pub driven : Row → Facts → ℕ
 driven r f = min (f .bytes - r .first) (r .most)
 
--- first driven position and number of driven positions: 0 and 0 if none
+-- a read: where it drives nothing, its first driven position is 0 too
 abbrev pub read : Row → Source → Device → Facts → Judged
 read r source d f =
     record {
@@ -78,7 +78,7 @@ eraseKind Small = SmallErase
 eraseKind Large = LargeErase
 eraseKind Chip = ChipErase
 
--- one data byte sent takes the one-byte duration, more take the longer one
+-- a program's duration goes by the bytes sent: in five bytes there is one data byte
 abbrev pub programKind : Facts → Kind
 programKind f = cond (eqb (f .bytes) 5) ByteProgram LongerProgram
 
@@ -112,11 +112,7 @@ obeyed (Works work) r d s f = worked work d s f
 abbrev pub complete : Row → Facts → Bool
 complete r f = leb (r .bytes) (f .bytes) && (onBoundary f || not (r .boundary))
 
--- 3. deep: ABh on a byte boundary wakes. All else: nothing
-abbrev pub asleep : Device → Facts → Judged
-asleep d f = cond (eqb (f .code) 0xAB && onBoundary f) (control (moved d Awake)) (nothing d)
-
--- 5. by opcode. WEL 0: nothing. WEL 1: carried out or aborted
+-- by opcode: with WEL 0 a command that needs it is nothing, with WEL 1 it is carried out or aborted
 unfoldable pub byOpcode : Row → Device → Settings → Facts → Judged
 byOpcode r d s f =
     cond (r .latch && not (d .wel)) (nothing d)
@@ -124,14 +120,20 @@ byOpcode r d s f =
     (cond (r .latch) (aborted d)
     (nothing d)))
 
--- 4. busy: what its row lets a busy part answer, 05h and F0h. All else: nothing
-unfoldable pub heard : Device → Settings → Facts → Judged
-heard d s f = cond (isBusy d && not (rowOf (f .code) .busy)) (nothing d) (byOpcode (rowOf (f .code)) d s f)
+-- in deep power-down only ABh on a boundary is heard
+abbrev pub asleep : Device → Facts → Judged
+asleep d f = cond (eqb (f .code) 0xAB && onBoundary f) (control (moved d Awake)) (nothing d)
 
--- the five steps, in this order: 1. ultra-deep: any frame wakes the part; 2. fewer than 8 bits: nothing
+-- Judging a frame, in this order:
+-- 1. from ultra-deep every frame wakes the part, however short
+-- 2. less than an opcode is nothing
+-- 3. in deep power-down, as `asleep` says
+-- 4. while busy nothing but the rows that a busy part answers: 05h and F0h
+-- 5. all else by opcode
 unfoldable pub judged : Device → Settings → Facts → Judged
 judged d s f =
     cond (ultraDeep (d .mode)) (control (woken d))
     (cond (ltb (f .bits) 8) (nothing d)
     (cond (deep (d .mode)) (asleep d f)
-    (heard d s f)))
+    (cond (isBusy d && not (rowOf (f .code) .busy)) (nothing d)
+    (byOpcode (rowOf (f .code)) d s f))))

@@ -9,7 +9,7 @@ use Rattle.sheet.specs.declared.settings.Kind.{Kind}
 use Rattle.sheet.specs.declared.settings.Kind.the-variants.{ByteProgram, LongerProgram, PageErase, SmallErase, LargeErase, ChipErase, OtpProgram, StatusWrite}
 use Rattle.sheet.specs.Device.{longest}
 
--- one-byte program, longer program, page erase, 4-KiB erase, 32-KiB erase, chip erase, OTP program, write status
+-- the place of each kind, in document 01's order
 abbrev pub placeOf : Kind → ℕ
 placeOf ByteProgram = 0
 placeOf LongerProgram = 1
@@ -23,11 +23,11 @@ placeOf StatusWrite = 7
 abbrev pub durationOf : Settings → Kind → ℕ
 durationOf s kind = getD (s .ticks) (placeOf kind) 0
 
--- a duration is 0 or over 60,000,000
+-- a duration that no operation may have: none at all, or too long
 abbrev pub unfair : ℕ → Bool
 unfair ticks = eqb ticks 0 || ltb longest ticks
 
--- refusal 7: one of the durations is
+-- refusal 7: one of the eight is such a duration
 unfoldable pub anyUnfair : List ℕ → Bool
 anyUnfair [] = false
 anyUnfair (t ∷ ts) = unfair t || anyUnfair ts

@@ -5,10 +5,10 @@ use Rattle.sheet.specs.declared.device.Device.{Device}
 use Rattle.sheet.specs.Bits.{flag}
 use Rattle.sheet.specs.Device.{isBusy}
 
--- bit 7 BPL, bit 4 is 1 when WP is high, bit 2 BP0, bit 1 WEL, bit 0 busy; all others 0
+-- BPL at bit 7, a high WP at bit 4, BP0 at bit 2, WEL at bit 1, busy at bit 0, and zeros between
 abbrev pub statusOne : Device → Bool → ℕ
 statusOne d wp = flag 7 (d .bpl) + flag 4 wp + flag 2 (d .bp0) + flag 1 (d .wel) + flag 0 (isBusy d)
 
--- bit 4 RSTE, bit 0 busy; all others 0
+-- RSTE at bit 4, busy at bit 0, and zeros elsewhere
 abbrev pub statusTwo : Device → ℕ
 statusTwo d = flag 4 (d .rste) + flag 0 (isBusy d)

@@ -62,7 +62,7 @@ fn either(test: bool, one: bool, other: bool) -> bool
 }
 
 impl Device {
-    // Takes BPL, BP0 and the OTP-used mark from the caller; the rest is clear, awake, 0 ticks.
+    // A new record from the caller's three bits: awake and idle, the latch and RSTE clear.
     pub fn fresh(bpl: bool, bp0: bool, used: bool) -> Device
         ensures { λ r. ⌜ r ≡ fresh bpl bp0 used ⌝ }
     {
@@ -92,7 +92,7 @@ impl Device {
         (LONGEST < self.busy) | (self.is_busy() & !mode.is_awake())
     }
 
-    // Time passes: the ticks come off those left, not below 0.
+    // Time passes: so many ticks fewer are left, or none.
     pub fn passed(mut self, ticks: u64) -> Device
         ensures { λ r. ⌜ r ≡ passed self ticks ⌝ }
     {
@@ -135,7 +135,7 @@ impl Device {
         }
     }
 
-    // Woken from ultra-deep: the latch and RSTE are 0, BPL and BP0 stay.
+    // Woken from ultra-deep: the latch and RSTE are lost.
     pub fn woken(self) -> Device
         ensures { λ r. ⌜ r ≡ woken self ⌝ }
     {
@@ -173,7 +173,7 @@ impl Device {
         self
     }
 
-    // Status byte 1 is written: BPL takes bit 7, and BP0 bit 2 unless BPL was 1.
+    // Status byte 1 is written: bit 7 goes to BPL, and bit 2 to BP0 unless BPL was 1.
     pub fn written(mut self, byte: u8) -> Device
         ensures { λ r. ⌜ r ≡ written self byte ⌝ }
     {
@@ -182,7 +182,7 @@ impl Device {
         self
     }
 
-    // Status byte 2 is written: RSTE takes bit 4.
+    // Status byte 2 is written: bit 4 goes to RSTE.
     pub fn enabled(mut self, byte: u8) -> Device
         ensures { λ r. ⌜ r ≡ enabled self byte ⌝ }
     {

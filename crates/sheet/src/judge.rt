@@ -11,7 +11,6 @@ use opcodes::Row;
 use opcodes::Source;
 use opcodes::Work;
 ghost use mathlib.Core.Path.{_≡_};
-ghost use Prim.Native.Nat.{min, _-_};
 ghost use Rattle.sheet.specs.Judging as judging;
 
 // What is known of a frame without its data: the opcode, the second byte, the number of bytes, the bits clocked, whether WP is high.
@@ -246,7 +245,7 @@ fn complete(row: Row, facts: Facts) -> bool
     (row.bytes <= facts.bytes) & (on_boundary(facts) | !row.boundary)
 }
 
-// Step 5, by opcode.
+// By opcode: nothing without the latch that it needs; else obeyed if complete, aborted if not.
 fn by_opcode(row: Row, device: Device, settings: Settings, facts: Facts) -> Judged
     ensures { λ r. ⌜ r ≡ judging.byOpcode row device settings facts ⌝ }
 {
@@ -262,7 +261,7 @@ fn by_opcode(row: Row, device: Device, settings: Settings, facts: Facts) -> Judg
     quiet(Outcome::Nothing, device)
 }
 
-// Step 3, in deep power-down: ABh on a boundary wakes, all else is nothing.
+// In deep power-down only ABh on a boundary is heard.
 fn asleep(device: Device, facts: Facts) -> Judged
     ensures { λ r. ⌜ r ≡ judging.asleep device facts ⌝ }
 {
@@ -270,17 +269,6 @@ fn asleep(device: Device, facts: Facts) -> Judged
         return quiet(Outcome::Control, device.moved(Mode::Awake));
     }
     quiet(Outcome::Nothing, device)
-}
-
-// Steps 4 and 5, awake: a busy part answers the rows that say so.
-fn heard(device: Device, settings: Settings, facts: Facts) -> Judged
-    ensures { λ r. ⌜ r ≡ judging.heard device settings facts ⌝ }
-{
-    let row = opcodes::row_of(facts.code);
-    if device.is_busy() & !row.busy {
-        return quiet(Outcome::Nothing, device);
-    }
-    by_opcode(row, device, settings, facts)
 }
 
 // The five steps, in document 01's order.
@@ -297,5 +285,9 @@ pub fn judge(device: Device, settings: Settings, facts: Facts) -> Judged
     if mode.is_deep() {
         return asleep(device, facts);
     }
-    heard(device, settings, facts)
+    let row = opcodes::row_of(facts.code);
+    if device.is_busy() & !row.busy {
+        return quiet(Outcome::Nothing, device);
+    }
+    by_opcode(row, device, settings, facts)
 }
