@@ -2,7 +2,8 @@
 ghost use mathlib.Core.Path.{_≡_};
 ghost use Rattle.opcodes.specs.Rows.{rowOf};
 
-// Where a read takes the bytes that it drives.
+// Where a read takes the bytes that it drives: the array, the security register, the status bytes, the device's identity, or its
+// legacy identity.
 pub enum Source {
     Array,
     Register,
@@ -21,7 +22,7 @@ pub enum Order {
     Reset,
 }
 
-// What an erase covers.
+// What an erase covers: a page of 256 bytes, a small block of 4 KiB, a large block of 32 KiB, or the whole array.
 pub enum Region {
     Page,
     Small,
@@ -59,6 +60,7 @@ pub struct Row {
     pub command: Command,
 }
 
+// As many positions as the frame has: no frame has more.
 const ENDLESS: usize = 18446744073709551615;
 
 const ROWS: [Row; 23] = [
