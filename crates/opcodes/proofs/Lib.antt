@@ -1,2 +1,3 @@
-pub mod Lookup
+pub mod Search
+mod Lookup
 pub mod Table

@@ -4,7 +4,8 @@ use mathlib.Core.Path.{_≡_, refl}
 use native.Mathlib.Omega.{arith}
 use lib.ListN.{drop}
 use Rattle.opcodes.specs.Rows.{rows, lookup, rowOf}
-use Rattle.opcodes.proofs.Lookup.{here, next, none}
+use Rattle.opcodes.proofs.Lookup.{here, next}
+use Rattle.opcodes.proofs.Search.{at-end}
 use Rattle.opcodes.proofs.row_of.Statement.{statement}
 use Rattle.opcodes.proofs.row_of.Tie as tie
 
@@ -20,15 +21,19 @@ loop-holds c = refl
 
 returns : tie.Need-returns Inv-loop μ-loop
 unfolding rows
-returns c = here rows (c .before .before .before .before .loop .i) _ _ (c .before .before .before .before .loop .inv) _ (omega arith) (c .if1 .taken)
+returns c =
+    let a = c .before .before .before .before in
+    here rows (a .loop .i) _ _ (a .loop .inv) _ (omega arith) (c .if1 .taken)
 
 loop-again : tie.Need-loop-again Inv-loop μ-loop
 unfolding rows
-loop-again c = next rows (c .before .before .before .before .loop .i) _ _ (c .before .before .before .before .loop .inv) _ (omega arith) (c .if1 .left)
+loop-again c =
+    let a = c .before .before .before .before in
+    next rows (a .loop .i) _ _ (a .loop .inv) _ (omega arith) (c .if1 .left)
 
 returns-2 : tie.Need-returns-2 Inv-loop μ-loop
-unfolding rows
-returns-2 c = none rows (c .before .loop .i) _ _ (c .before .loop .inv) (omega arith)
+unfolding rows lookup
+returns-2 c = at-end (λ l. lookup l (c .before .before .args .code)) rows (c .before .loop .i) _ (c .before .loop .inv) (omega arith)
 
 pub row-of-spec : {M : Type 1} → statement M
 row-of-spec =

@@ -5,7 +5,7 @@ use native.Mathlib.Omega.{arith}
 use borrow.Author.Needs.{needs}
 use lib.ListN.{length, drop}
 use Rattle.sheet.specs.Settings.{anyUnfair}
-use Rattle.sheet.proofs.Durations.{here, next, none}
+use Rattle.opcodes.proofs.Search.{from-here, at-end}
 use Rattle.sheet.proofs.settings.Settings.is_unfair.Statement.{statement}
 use Rattle.sheet.proofs.settings.Settings.is_unfair.Tie as tie
 
@@ -19,13 +19,20 @@ loop-holds : tie.Need-loop-holds Inv-loop μ-loop
 loop-holds c = (search needs, refl)
 
 returns : tie.Need-returns Inv-loop μ-loop
-returns c = here (c .before .before .before .before .args .self .ticks) (c .before .before .loop .i) _ (c .before .before .loop .inv .1) (omega arith) (c .if1 .taken)
+unfolding anyUnfair
+returns c =
+    let a = c .before .before in
+    rw (c .if1 .taken) at (from-here anyUnfair (a .before .before .args .self .ticks) (a .loop .i) _ (a .loop .inv .1) 0 (omega arith))
 
 loop-again : tie.Need-loop-again Inv-loop μ-loop
-loop-again c = (c .before .before .loop .inv .0, next (c .before .before .before .before .args .self .ticks) (c .before .before .loop .i) _ (c .before .before .loop .inv .1) (omega arith) (c .if1 .left))
+unfolding anyUnfair
+loop-again c =
+    let a = c .before .before in
+    (a .loop .inv .0, rw (c .if1 .left) at (from-here anyUnfair (a .before .before .args .self .ticks) (a .loop .i) _ (a .loop .inv .1) 0 (omega arith)))
 
 returns-2 : tie.Need-returns-2 Inv-loop μ-loop
-returns-2 c = none (c .before .before .before .args .self .ticks) (c .before .loop .i) _ (c .before .loop .inv .1) (omega arith)
+unfolding anyUnfair
+returns-2 c = at-end anyUnfair (c .before .before .before .args .self .ticks) (c .before .loop .i) _ (c .before .loop .inv .1) (omega arith)
 
 pub is-unfair-spec : {M : Type 1} → statement M
 is-unfair-spec =
