@@ -8,10 +8,9 @@ use native.Mathlib.Nat.{add-zero, add-suc, add-assoc, not-suc-le-zero, mod-lt, m
 use native.Mathlib.Omega.{arith}
 use borrow.Author.Tests.{eq-eqb, ne-eqb}
 use lib.Bits.{bitAnd, and-mask}
-use lib.Dec.{eqb}
 use lib.ListN.{length, getD, set, drop, replicate, length-replicate, getD-replicate}
 use lib.Seq.{getD-drop}
-use Rattle.cells.specs.Each.{Cell, each, over}
+use Rattle.cells.specs.Each.{each, over}
 use Rattle.cells.specs.Range.{range}
 use Rattle.cells.specs.Page.{aims, covered, last, loaded, andedIn, programmed}
 use Rattle.cells.proofs.Places.{each-alike, each-set, getD-each, is-each, length-each}

@@ -1,6 +1,6 @@
 -- The laws of a range of places: a loop that stores at one place after the other, and runs side by side. Assumes nothing.
-use Prim.Native.Nat.{ℕ, suc, _+_, _<_, _≤_}
-use mathlib.Core.Bool.{Bool, true, false, and-false, and-eq-true-iff}
+use Prim.Native.Nat.{ℕ, _+_, _<_, _≤_}
+use mathlib.Core.Bool.{true, false, and-false, and-eq-true-iff}
 use mathlib.Core.List.{List}
 use mathlib.Core.Logic.{_≢_}
 use mathlib.Core.Path.{_≡_, refl, sym, ap, _∙_}

@@ -3,3 +3,4 @@ pub mod Device
 pub mod Settings
 pub mod Status
 pub mod Judging
+pub mod Begins

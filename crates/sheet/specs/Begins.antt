@@ -1,0 +1,43 @@
+-- When a frame begins an operation on the array: all that has to hold, in one line. Assumes nothing.
+use mathlib.Core.Bool.{Bool, true, false, not, _&&_}
+use lib.Dec.{leb, ltb}
+use Rattle.opcodes.specs.declared.Row.{Row}
+use Rattle.opcodes.specs.declared.Command.{Command}
+use Rattle.opcodes.specs.declared.Command.the-variants.{Unlisted, Reads, Orders, Works}
+use Rattle.opcodes.specs.declared.Work.{Work}
+use Rattle.opcodes.specs.Rows.{rowOf}
+use Rattle.sheet.specs.declared.device.Device.{Device}
+use Rattle.sheet.specs.declared.judge.Action.{Action}
+use Rattle.sheet.specs.declared.judge.Facts.{Facts}
+use Rattle.sheet.specs.Device.{awake, isBusy}
+use Rattle.sheet.specs.Judging.{onBoundary}
+
+-- the action programs or erases the array
+abbrev pub changesArray : Action → Bool
+changesArray Action.Still = false
+changesArray (Action.Drive source) = false
+changesArray Action.Program = true
+changesArray (Action.Erase region) = true
+changesArray Action.Otp = false
+
+abbrev pub worksOnArray : Work → Bool
+worksOnArray Work.Program = true
+worksOnArray (Work.Erase region) = true
+worksOnArray Work.Otp = false
+worksOnArray Work.WriteStatus = false
+worksOnArray Work.WriteStatusTwo = false
+
+-- the opcode is a program or an erase of the array
+abbrev pub meansArray : Command → Bool
+meansArray Unlisted = false
+meansArray (Reads source) = false
+meansArray (Orders order) = false
+meansArray (Works work) = worksOnArray work
+
+-- by opcode: a program or an erase, complete, on a boundary, write-enabled, unprotected
+abbrev pub readyByOpcode : Command → Row → Device → Facts → Bool
+readyByOpcode command r d f = meansArray command && (leb (r .bytes) (f .bytes) && (onBoundary f && (d .wel && not (d .bp0))))
+
+-- and awake, idle, with a whole opcode
+abbrev pub ready : Device → Facts → Bool
+ready d f = awake (d .mode) && (not (isBusy d) && (not (ltb (f .bits) 8) && readyByOpcode (rowOf (f .code) .command) (rowOf (f .code)) d f))
