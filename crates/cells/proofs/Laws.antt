@@ -12,7 +12,7 @@ use lib.ListN.{getD}
 use Rattle.cells.specs.Each.{Cell, each, over, stored, anded}
 use Rattle.cells.specs.Page.{programmed}
 use Rattle.cells.specs.Range.{range, erased}
-use Rattle.cells.proofs.Places.{each-alike, each-each}
+use Rattle.cells.proofs.Places.{each-then, over-in, over-out}
 
 half : (a b : ℕ) → bitAnd a b / 2 ≡ bitAnd (a / 2) (b / 2)
 half a b = omega (arith, and-step a b)
@@ -35,10 +35,8 @@ exchanged x a b = and-assoc x a b ∙ (ap (bitAnd x) (and-comm a b) ∙ sym (and
 pub anded-commute : (c d : ℕ → Bool) (u v : ℕ → ℕ) (xs : List ℕ) → each (anded c u) (each (anded d v) xs) ≡ each (anded d v) (each (anded c u) xs)
 unfolding over
 anded-commute c d u v xs =
-    each-each (anded c u) (anded d v) xs ∙
-    (each-alike (λ k x. anded c u k (anded d v k x)) (λ k x. anded d v k (anded c u k x)) xs
-    (λ k l. by k (getD xs k 0) (c k) (d k) refl refl) ∙
-    sym (each-each (anded d v) (anded c u) xs))
+    each-then (anded c u) (anded d v) (λ k x. anded d v k (anded c u k x)) xs (λ k l. by k (getD xs k 0) (c k) (d k) refl refl) ∙
+    sym (each-then (anded d v) (anded c u) (λ k x. anded d v k (anded c u k x)) xs (λ k l. refl))
   where
     by : (k x : ℕ) (s t : Bool) → c k ≡ s → d k ≡ t → anded c u k (anded d v k x) ≡ anded d v k (anded c u k x)
     by k x true true p q = rw (p, q) (exchanged x (v k) (u k))
@@ -46,16 +44,19 @@ anded-commute c d u v xs =
     by k x false true p q = rw (p, q)
     by k x false false p q = rw (p, q)
 
+-- what comes before an operation and stays within its places: of it only what the operation still sees counts
+after : (covers : ℕ → Bool) (f g : Cell) (xs : List ℕ) → ((k x : ℕ) → covers k ≡ true → f k (g k x) ≡ f k x) → ((k x : ℕ) → covers k ≡ false → g k x ≡ x)
+    → each (over covers f) (each g xs) ≡ each (over covers f) xs
+unfolding over
+after covers f g xs inside outside = each-then (over covers f) g (over covers f) xs (λ k l. by k (getD xs k 0) (covers k) refl)
+  where
+    by : (k x : ℕ) (s : Bool) → covers k ≡ s → over covers f k (g k x) ≡ over covers f k x
+    by k x true p = rw p (inside k x p)
+    by k x false p = rw p (outside k x p)
+
 -- what does at each place what it does once is the same twice
 twice : (covers : ℕ → Bool) (f : Cell) (xs : List ℕ) → ((k x : ℕ) → f k (f k x) ≡ f k x) → each (over covers f) (each (over covers f) xs) ≡ each (over covers f) xs
-unfolding over
-twice covers f xs h =
-    each-each (over covers f) (over covers f) xs ∙
-    each-alike (λ k x. over covers f k (over covers f k x)) (over covers f) xs (λ k l. by k (getD xs k 0) (covers k) refl)
-  where
-    by : (k x : ℕ) (s : Bool) → covers k ≡ s → over covers f k (over covers f k x) ≡ over covers f k x
-    by k x true p = rw p (h k x)
-    by k x false p = rw p
+twice covers f xs h = after covers f (over covers f) xs (λ k x p. ap (f k) (over-in covers f k x p) ∙ h k x) (over-out covers f)
 
 -- a program twice is once
 pub anded-twice : (covers : ℕ → Bool) (value : ℕ → ℕ) (xs : List ℕ) → each (anded covers value) (each (anded covers value) xs) ≡ each (anded covers value) xs
@@ -68,14 +69,7 @@ stored-twice covers value xs = twice covers (λ k x. value k) xs (λ k x. refl)
 -- an erase undoes what came before it in its range
 pub undone : (covers : ℕ → Bool) (value : ℕ → ℕ) (f : Cell) (xs : List ℕ) → ((k x : ℕ) → covers k ≡ false → f k x ≡ x)
     → each (stored covers value) (each f xs) ≡ each (stored covers value) xs
-unfolding over
-undone covers value f xs h =
-    each-each (stored covers value) f xs ∙
-    each-alike (λ k x. stored covers value k (f k x)) (stored covers value) xs (λ k l. by k (getD xs k 0) (covers k) refl)
-  where
-    by : (k x : ℕ) (s : Bool) → covers k ≡ s → stored covers value k (f k x) ≡ stored covers value k x
-    by k x true p = rw p
-    by k x false p = rw p (h k x p)
+undone covers value f xs h = after covers (λ k x. value k) f xs (λ k x p. refl) h
 
 -- The same of the operations by name, for pages of any size at any place.
 pub programs-commute : (size page start : ℕ) (sent : List ℕ) (size′ page′ start′ : ℕ) (sent′ xs : List ℕ)

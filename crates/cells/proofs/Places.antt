@@ -42,12 +42,13 @@ is-each f xs ys e h =
 pub each-alike : (f g : Cell) (xs : List ℕ) → ((k : ℕ) → k < length xs → f k (getD xs k 0) ≡ g k (getD xs k 0)) → each f xs ≡ each g xs
 each-alike f g xs h = is-each g xs (each f xs) (length-each f xs) (λ k l. getD-each f xs k 0 l ∙ h k l)
 
--- one after the other is one function
-pub each-each : (f g : Cell) (xs : List ℕ) → each f (each g xs) ≡ each (λ k x. f k (g k x)) xs
-each-each f g xs =
-    is-each (λ k x. f k (g k x)) xs (each f (each g xs)) (length-each f (each g xs) ∙ length-each g xs)
-    (λ k l. let m : k < length (each g xs) = omega (arith, length-each g xs) in
-    getD-each f (each g xs) k 0 m ∙ ap (f k) (getD-each g xs k 0 l))
+-- one after the other is one function, if it does at every place what the two do
+pub each-then : (f g h : Cell) (xs : List ℕ) → ((k : ℕ) → k < length xs → f k (g k (getD xs k 0)) ≡ h k (getD xs k 0)) → each f (each g xs) ≡ each h xs
+each-then f g h xs e =
+    is-each h xs (each f (each g xs)) (length-each f (each g xs) ∙ length-each g xs)
+    (λ k l.
+    let m : k < length (each g xs) = omega (arith, length-each g xs) in
+    getD-each f (each g xs) k 0 m ∙ (ap (f k) (getD-each g xs k 0 l) ∙ e k l))
 
 -- a store changes what the function does at one place
 pub each-set : (f g : Cell) (xs : List ℕ) (i v : ℕ) → i < length xs → v ≡ g i (getD xs i 0)

@@ -11,7 +11,7 @@ use lib.Dec.{leb, ltb}
 use lib.ListN.{length, getD, set}
 use Rattle.cells.specs.Each.{Cell, each, over}
 use Rattle.cells.specs.Range.{range}
-use Rattle.cells.proofs.Places.{each-alike, each-each, each-set, is-each, length-each, over-in, over-out, over-alike, untouched}
+use Rattle.cells.proofs.Places.{each-alike, each-then, each-set, is-each, length-each, over-in, over-out, over-alike, untouched}
 
 -- a place of the range, and the three kinds of place: in it, before it, behind it
 pub range-in : (a b k : ℕ) → a ≤ k → k < b → range a b k ≡ true
@@ -38,8 +38,7 @@ range-more a i k n = by (decLt k i)
 -- two runs side by side are one run
 pub side-by-side : (f : Cell) (a b e : ℕ) (xs : List ℕ) → a ≤ b → b ≤ e → each (over (range b e) f) (each (over (range a b) f) xs) ≡ each (over (range a e) f) xs
 side-by-side f a b e xs p q =
-    each-each (over (range b e) f) (over (range a b) f) xs ∙
-    each-alike (λ k x. over (range b e) f k (over (range a b) f k x)) (over (range a e) f) xs (λ k l. by k (getD xs k 0) (decLt k b))
+    each-then (over (range b e) f) (over (range a b) f) (over (range a e) f) xs (λ k l. by k (getD xs k 0) (decLt k b))
   where
     by : (k x : ℕ) → Dec (k < b) → over (range b e) f k (over (range a b) f k x) ≡ over (range a e) f k x
     by k x (yes l) =

@@ -18,12 +18,16 @@ use Rattle.sheet.specs.declared.device.Mode.the-variants.{Awake, Deep, U
 use Rattle.sheet.specs.declared.settings.Settings.{Settings}
 use Rattle.sheet.specs.declared.judge.Facts.{Facts}
 use Rattle.sheet.specs.declared.judge.Judged.{Judged}
-use Rattle.sheet.specs.Begins.{changesArray, worksOnArray, readyByOpcode, ready}
+use Rattle.sheet.specs.Begins.{changesArray, worksOnArray, meansArray, readyByOpcode, ready}
 use Rattle.sheet.specs.Device.{awake, deep, ultraDeep, isBusy, moved, woken, reset}
 use Rattle.sheet.specs.Judging.{nothing, control, aborted, onBoundary, complete, ordered, carried, worked, obeyed, byOpcode, asleep, judged}
 
 abbrev changes : Judged → Bool
 changes j = changesArray (j .action)
+
+-- `readyByOpcode` of a row whose command is known
+abbrev readyFor : Command → Row → Device → Facts → Bool
+readyFor c r d f = meansArray c && (leb (r .bytes) (f .bytes) && (onBoundary f && (d .wel && not (d .bp0))))
 
 -- where neither way changes the array, a choice between them does not
 either : (b : Bool) (x y : Judged) → changes x ≡ false → changes y ≡ false → changes (cond b x y) ≡ false
@@ -78,7 +82,7 @@ module _ (r : Row) (d : Device) (s : Settings) (f : Facts) where
       let needed = and-eq-true-iff (r .boundary) (r .latch) .0 (heeded .0) in
       (needed .0, needed .1, heeded .1)
 
-  opcode-when : (c : Command) → r .command ≡ c → ruleOf c r ≡ true → changes (byOpcode r d s f) ≡ readyByOpcode c r d f
+  opcode-when : (c : Command) → r .command ≡ c → ruleOf c r ≡ true → changes (byOpcode r d s f) ≡ readyFor c r d f
   unfolding byOpcode
   opcode-when Unlisted e k = quiet-way (rw e)
   opcode-when (Reads source) e k = quiet-way (rw e)
@@ -87,7 +91,7 @@ module _ (r : Row) (d : Device) (s : Settings) (f : Facts) where
       rw (e, works work k .1, works work k .0) (latched-when work d s f (d .wel) (leb (r .bytes) (f .bytes)) (onBoundary f))
 
   -- what a busy part answers leaves the array alone
-  answered : (c : Command) → ruleOf c r ≡ true → r .busy ≡ true → readyByOpcode c r d f ≡ false
+  answered : (c : Command) → ruleOf c r ≡ true → r .busy ≡ true → readyFor c r d f ≡ false
   answered Unlisted k b = refl
   answered (Reads source) k b = refl
   answered (Orders order) k b = refl
@@ -96,7 +100,7 @@ module _ (r : Row) (d : Device) (s : Settings) (f : Facts) where
   -- an awake part, by whether the frame is short and the part busy
   heard-when : (short busy : Bool) → rule r ≡ true
       → changes (cond short (nothing d) (cond (busy && not (r .busy)) (nothing d) (byOpcode r d s f)))
-      ≡ (not busy && (not short && readyByOpcode (r .command) r d f))
+      ≡ (not busy && (not short && readyByOpcode r d f))
   heard-when true busy k = sym (and-false (not busy))
   heard-when false false k = opcode-when (r .command) refl k
   heard-when false true k = by (r .busy) refl
@@ -113,7 +117,7 @@ stepped-when : (r : Row) (d : Device) (s : Settings) (f : Facts) → rule r ≡ 
     (cond (deep m) (asleep d f)
     (cond (isBusy d && not (r .busy)) (nothing d)
     (byOpcode r d s f)))))
-    ≡ (awake m && (not (isBusy d) && (not (ltb (f .bits) 8) && readyByOpcode (r .command) r d f)))
+    ≡ (awake m && (not (isBusy d) && (not (ltb (f .bits) 8) && readyByOpcode r d f)))
 stepped-when r d s f k UltraDeep = refl
 stepped-when r d s f k Deep =
     either (ltb (f .bits) 8) (nothing d) (asleep d f) refl (either (eqb (f .code) 0xAB && onBoundary f) (control (moved d Awake)) (nothing d) refl refl)

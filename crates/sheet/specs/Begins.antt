@@ -35,9 +35,9 @@ meansArray (Orders order) = false
 meansArray (Works work) = worksOnArray work
 
 -- by opcode: a program or an erase, complete, on a boundary, write-enabled, unprotected
-abbrev pub readyByOpcode : Command → Row → Device → Facts → Bool
-readyByOpcode command r d f = meansArray command && (leb (r .bytes) (f .bytes) && (onBoundary f && (d .wel && not (d .bp0))))
+abbrev pub readyByOpcode : Row → Device → Facts → Bool
+readyByOpcode r d f = meansArray (r .command) && (leb (r .bytes) (f .bytes) && (onBoundary f && (d .wel && not (d .bp0))))
 
 -- and awake, idle, with a whole opcode
 abbrev pub ready : Device → Facts → Bool
-ready d f = awake (d .mode) && (not (isBusy d) && (not (ltb (f .bits) 8) && readyByOpcode (rowOf (f .code) .command) (rowOf (f .code)) d f))
+ready d f = awake (d .mode) && (not (isBusy d) && (not (ltb (f .bits) 8) && readyByOpcode (rowOf (f .code)) d f))

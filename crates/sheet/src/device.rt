@@ -12,7 +12,7 @@ pub enum Mode {
 }
 
 impl Mode {
-    pub fn is_awake(self) -> bool
+    pub(crate) fn is_awake(self) -> bool
         ensures { λ r. ⌜ r ≡ awake self ⌝ }
     {
         match self {
@@ -22,7 +22,7 @@ impl Mode {
         }
     }
 
-    pub fn is_deep(self) -> bool
+    pub(crate) fn is_deep(self) -> bool
         ensures { λ r. ⌜ r ≡ deep self ⌝ }
     {
         match self {
@@ -32,7 +32,7 @@ impl Mode {
         }
     }
 
-    pub fn is_ultra_deep(self) -> bool
+    pub(crate) fn is_ultra_deep(self) -> bool
         ensures { λ r. ⌜ r ≡ ultraDeep self ⌝ }
     {
         match self {
@@ -78,7 +78,7 @@ impl Device {
     }
 
     // Whether ticks are left.
-    pub fn is_busy(self) -> bool
+    pub(crate) fn is_busy(self) -> bool
         ensures { λ r. ⌜ r ≡ isBusy self ⌝ }
     {
         0 < self.busy
@@ -105,7 +105,7 @@ impl Device {
     }
 
     // The latch is set.
-    pub fn latched(mut self) -> Device
+    pub(crate) fn latched(mut self) -> Device
         ensures { λ r. ⌜ r ≡ latched self ⌝ }
     {
         self.wel = true;
@@ -113,7 +113,7 @@ impl Device {
     }
 
     // The latch is dropped.
-    pub fn dropped(mut self) -> Device
+    pub(crate) fn dropped(mut self) -> Device
         ensures { λ r. ⌜ r ≡ dropped self ⌝ }
     {
         self.wel = false;
@@ -121,7 +121,7 @@ impl Device {
     }
 
     // The mode changes.
-    pub fn moved(self, mode: Mode) -> Device
+    pub(crate) fn moved(self, mode: Mode) -> Device
         ensures { λ r. ⌜ r ≡ moved self mode ⌝ }
     {
         Device {
@@ -136,7 +136,7 @@ impl Device {
     }
 
     // Woken from ultra-deep: the latch and RSTE are lost.
-    pub fn woken(self) -> Device
+    pub(crate) fn woken(self) -> Device
         ensures { λ r. ⌜ r ≡ woken self ⌝ }
     {
         Device {
@@ -151,7 +151,7 @@ impl Device {
     }
 
     // Busy for so many ticks.
-    pub fn working(mut self, ticks: u64) -> Device
+    pub(crate) fn working(mut self, ticks: u64) -> Device
         ensures { λ r. ⌜ r ≡ working self ticks ⌝ }
     {
         self.busy = ticks;
@@ -159,14 +159,14 @@ impl Device {
     }
 
     // Reset: idle, and the latch is dropped.
-    pub fn reset(self) -> Device
+    pub(crate) fn reset(self) -> Device
         ensures { λ r. ⌜ r ≡ reset self ⌝ }
     {
         self.dropped().working(0)
     }
 
     // The OTP-used mark is set.
-    pub fn marked(mut self) -> Device
+    pub(crate) fn marked(mut self) -> Device
         ensures { λ r. ⌜ r ≡ marked self ⌝ }
     {
         self.used = true;
@@ -174,7 +174,7 @@ impl Device {
     }
 
     // Status byte 1 is written: bit 7 goes to BPL, and bit 2 to BP0 unless BPL was 1.
-    pub fn written(mut self, byte: u8) -> Device
+    pub(crate) fn written(mut self, byte: u8) -> Device
         ensures { λ r. ⌜ r ≡ written self byte ⌝ }
     {
         self.bp0 = either(self.bpl, self.bp0, byte / 4 % 2 == 1);
@@ -183,7 +183,7 @@ impl Device {
     }
 
     // Status byte 2 is written: bit 4 goes to RSTE.
-    pub fn enabled(mut self, byte: u8) -> Device
+    pub(crate) fn enabled(mut self, byte: u8) -> Device
         ensures { λ r. ⌜ r ≡ enabled self byte ⌝ }
     {
         self.rste = byte / 16 % 2 == 1;

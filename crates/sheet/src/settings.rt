@@ -18,7 +18,7 @@ pub enum Kind {
 
 impl Kind {
     // Its place among the durations.
-    pub fn place(self) -> usize
+    pub(crate) fn place(self) -> usize
         ensures { λ r. ⌜ (r ≡ placeOf self) × (r < 8) ⌝ }
     {
         match self {
@@ -49,7 +49,7 @@ impl Settings {
     }
 
     // How long an operation of that kind takes.
-    pub fn duration(self, kind: Kind) -> u64
+    pub(crate) fn duration(self, kind: Kind) -> u64
         ensures { λ r. ⌜ r ≡ durationOf self kind ⌝ }
     {
         let ticks = self.ticks;
