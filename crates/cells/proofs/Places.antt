@@ -38,6 +38,10 @@ is-each f xs ys e h =
     ext-getD 0 ys (each f xs) (e ∙ sym (length-each f xs))
     (λ k l. let m : k < length xs = omega arith in h k m ∙ sym (getD-each f xs k 0 m))
 
+-- to give each byte back is to do nothing
+pub each-same : (xs : List ℕ) → xs ≡ each (λ k x. x) xs
+each-same xs = is-each (λ k x. x) xs xs refl (λ k l. refl)
+
 -- two functions that agree at every place and its byte do the same
 pub each-alike : (f g : Cell) (xs : List ℕ) → ((k : ℕ) → k < length xs → f k (getD xs k 0) ≡ g k (getD xs k 0)) → each f xs ≡ each g xs
 each-alike f g xs h = is-each g xs (each f xs) (length-each f xs) (λ k l. getD-each f xs k 0 l ∙ h k l)

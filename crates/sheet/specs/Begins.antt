@@ -34,6 +34,20 @@ meansArray (Reads source) = false
 meansArray (Orders order) = false
 meansArray (Works work) = worksOnArray work
 
+-- what a program or an erase asks for; nothing, of any other opcode
+abbrev pub workAsks : Work → Action
+workAsks Work.Program = Action.Program
+workAsks (Work.Erase region) = Action.Erase region
+workAsks Work.Otp = Action.Still
+workAsks Work.WriteStatus = Action.Still
+workAsks Work.WriteStatusTwo = Action.Still
+
+abbrev pub asksFor : Command → Action
+asksFor Unlisted = Action.Still
+asksFor (Reads source) = Action.Still
+asksFor (Orders order) = Action.Still
+asksFor (Works work) = workAsks work
+
 -- by opcode: a program or an erase, complete, on a boundary, write-enabled, unprotected
 abbrev pub readyByOpcode : Row → Device → Facts → Bool
 readyByOpcode r d f = meansArray (r .command) && (leb (r .bytes) (f .bytes) && (onBoundary f && (d .wel && not (d .bp0))))

@@ -1,0 +1,59 @@
+-- What the right lengths give to those who work on the memories, and what is known of a call that is not refused. Assumes nothing.
+use Prim.Native.Nat.{ℕ, _%_, _<_, _≤_}
+use mathlib.Core.Bool.{Bool, true, false, cond, _||_}
+use mathlib.Core.Path.{_≡_, refl}
+use native.Mathlib.Omega.{arith}
+use borrow.Author.Tests.{ltb-false, eqb-true, not-false}
+use lib.Dec.{eqb}
+use Rattle.sheet.specs.declared.device.Device.{Device}
+use Rattle.sheet.specs.declared.settings.Settings.{Settings}
+use Rattle.sheet.specs.Device.{unsound}
+use Rattle.sheet.specs.Settings.{anyUnfair}
+use Rattle.lent.specs.declared.refusal.Lengths.{Lengths}
+use Rattle.lent.specs.Refusal.{isArray, isRegister, bytesFor, refusalOf}
+
+-- an array has bytes, and whole blocks of 32 KiB
+pub array-long : (n : ℕ) → isArray n ≡ true → (0 < n) × (n % 32768 ≡ 0)
+array-long n e = by (eqb n 131072) (eqb-true n 131072) e
+  where
+    by : (b : Bool) → (b ≡ true → n ≡ 131072) → (b || eqb n 65536) ≡ true → (0 < n) × (n % 32768 ≡ 0)
+    by true large e = let l : n ≡ 131072 = large refl in (omega arith, omega arith)
+    by false large e = let l : n ≡ 65536 = eqb-true n 65536 e in (omega arith, omega arith)
+
+pub register-long : (n : ℕ) → isRegister n ≡ true → n ≡ 128
+register-long n e = eqb-true n 128 e
+
+-- a number that is not 0 was not given
+passed : (b : Bool) (n m : ℕ) → (n ≡ 0 → ⊥) → cond b n m ≡ 0 → (b ≡ false) × (m ≡ 0)
+passed true n m given e = absurd (given e)
+passed false n m given e = (refl, e)
+
+-- what is known of an accepted call
+pub record Accepted (d : Device) (s : Settings) (bits : ℕ) (lengths : Lengths) : Type 0 where
+  pub array : isArray (lengths .array) ≡ true
+  pub register : lengths .register ≡ 128
+  pub short : lengths .input ≤ 8192
+  pub fits : bytesFor bits ≡ lengths .input
+  pub room : lengths .input ≤ lengths .output
+  pub sound : unsound d ≡ false
+  pub fair : anyUnfair (s .ticks) ≡ false
+
+pub accepted : (d : Device) (s : Settings) (bits : ℕ) (lengths : Lengths) → refusalOf d s bits lengths ≡ 0 → Accepted d s bits lengths
+unfolding refusalOf
+accepted d s bits lengths e =
+    let one = passed _ 1 _ (λ (z : 1 ≡ 0). omega arith) e in
+    let two = passed _ 2 _ (λ (z : 2 ≡ 0). omega arith) (one .1) in
+    let three = passed _ 3 _ (λ (z : 3 ≡ 0). omega arith) (two .1) in
+    let four = passed _ 4 _ (λ (z : 4 ≡ 0). omega arith) (three .1) in
+    let five = passed _ 5 _ (λ (z : 5 ≡ 0). omega arith) (four .1) in
+    let six = passed _ 6 _ (λ (z : 6 ≡ 0). omega arith) (five .1) in
+    let seven = passed _ 7 0 (λ (z : 7 ≡ 0). omega arith) (six .1) in
+    record {
+      array = not-false _ (one .0);
+      register = register-long (lengths .register) (not-false _ (two .0));
+      short = ltb-false _ _ (three .0);
+      fits = eqb-true _ _ (not-false _ (four .0));
+      room = ltb-false _ _ (five .0);
+      sound = six .0;
+      fair = seven .0;
+    }

@@ -1,0 +1,32 @@
+use mathlib.Core.Path.{_≡_, sym, _∙_}
+use native.Mathlib.Omega.{arith}
+use lib.ListN.{length}
+use Rattle.lent.proofs.Lengths.{array-long, register-long}
+use borrow.Author.Needs.{needs}
+use Rattle.lent.proofs.look.look.Statement.{statement}
+use Rattle.lent.proofs.look.look.Tie as tie
+
+part-requires : tie.Need-part-requires
+part-requires c κs e = array-long _ (sym (c .is-array .ensures) ∙ e) .0
+
+part-requires-2 : tie.Need-part-requires-2
+part-requires-2 c κs e = let l : length (c .before .before .before .before .before .args .register .now) ≡ 128 = register-long _ (sym (c .is-register .ensures) ∙ e) in omega arith
+
+returns : tie.Need-returns
+returns c = rw (c .before .before .enum-told .given .1, c .part .ensures, c .before .is-array .ensures)
+
+returns-2 : tie.Need-returns-2
+returns-2 c = rw (c .before .before .enum-told2 .given .1, c .part2 .ensures, c .before .is-register .ensures)
+
+pub look-spec : {M : Type 1} → statement M
+look-spec =
+    tie.close
+    (tie.spec
+    (λ c. search needs)
+    (λ c κs. search needs)
+    part-requires
+    (λ c. search needs)
+    (λ c κs. search needs)
+    part-requires-2
+    returns
+    returns-2)

@@ -1,0 +1,46 @@
+-- The refusals: their numbers, and when each is given. They see lengths, the record and the settings, and never a byte that is lent.
+-- Assumes nothing.
+use Prim.Native.Nat.{ℕ, _+_, _/_}
+use mathlib.Core.Bool.{Bool, cond, not, _||_}
+use lib.Dec.{ltb, eqb}
+use Rattle.sheet.specs.declared.device.Device.{Device}
+use Rattle.sheet.specs.declared.settings.Settings.{Settings}
+use Rattle.sheet.specs.Device.{unsound}
+use Rattle.sheet.specs.Settings.{anyUnfair}
+use Rattle.lent.specs.declared.refusal.Refusal.{Refusal}
+use Rattle.lent.specs.declared.refusal.Lengths.{Lengths}
+
+-- each by its number in the table; 0 says that there is none
+abbrev pub numberOf : Refusal → ℕ
+numberOf Refusal.Accepted = 0
+numberOf Refusal.ArrayLength = 1
+numberOf Refusal.RegisterLength = 2
+numberOf Refusal.InputLength = 3
+numberOf Refusal.BitCount = 4
+numberOf Refusal.OutputLength = 5
+numberOf Refusal.Record = 6
+numberOf Refusal.Duration = 7
+
+-- the array's length: the part's own, or the bench's small one
+abbrev pub isArray : ℕ → Bool
+isArray length = eqb length 131072 || eqb length 65536
+
+-- the security register's length
+abbrev pub isRegister : ℕ → Bool
+isRegister length = eqb length 128
+
+-- the bytes that so many bits need: divided by 8, rounded up
+abbrev pub bytesFor : ℕ → ℕ
+bytesFor bits = (bits + 7) / 8
+
+-- the number of the refusal, the lowest first; 0 if the call is accepted
+unfoldable pub refusalOf : Device → Settings → ℕ → Lengths → ℕ
+refusalOf d s bits lengths =
+    cond (not (isArray (lengths .array))) 1
+    (cond (not (isRegister (lengths .register))) 2
+    (cond (ltb 8192 (lengths .input)) 3
+    (cond (not (eqb (bytesFor bits) (lengths .input))) 4
+    (cond (ltb (lengths .output) (lengths .input)) 5
+    (cond (unsound d) 6
+    (cond (anyUnfair (s .ticks)) 7
+    0))))))

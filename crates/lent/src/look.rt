@@ -1,0 +1,49 @@
+// A look at a lent memory without a frame.
+use crate::refusal::is_array;
+use crate::refusal::is_register;
+ghost use mathlib.Core.Bool.{true, cond};
+ghost use mathlib.Core.List.{[]};
+ghost use mathlib.Core.Path.{_≡_};
+ghost use Prim.Native.Nat.{_<_};
+ghost use lib.ListN.{length};
+ghost use Rattle.lent.specs.Look.{partOf, lookedAt};
+
+// Which of the lent memories.
+pub enum Memory {
+    Array,
+    Register,
+}
+
+// The part of a memory from an address on, up to the count or the memory's end; an empty one if its length is not right.
+fn part(memory: &[u8], right: bool, address: usize, count: usize) -> &[u8]
+    requires { ⌜ (right ≡ true → 0 < length (now memory)) ⌝ }
+    ensures { λ r. ⌜ now r ≡ cond right (partOf (now (memory .entry)) address count) [] ⌝ }
+{
+    if right {
+        let size = memory.len();
+        let start = address % size;
+        if count < size - start {
+            let end = start + count;
+            return &memory[start..end];
+        }
+        return &memory[start..];
+    }
+    &memory[..0]
+}
+
+// A part of the chosen memory itself: it begins at the address, reduced to the memory's size, and is as long as the count, but ends
+// where the memory ends.
+pub fn look<'a>(
+    array: &'a [u8],
+    register: &'a [u8],
+    memory: Memory,
+    address: usize,
+    count: usize,
+) -> &'a [u8]
+    ensures { λ r. ⌜ now r ≡ lookedAt memory (now (array .entry)) (now (register .entry)) address count ⌝ }
+{
+    match memory {
+        Memory::Array => part(array, is_array(array.len()), address, count),
+        Memory::Register => part(register, is_register(register.len()), address, count),
+    }
+}

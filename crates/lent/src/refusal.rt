@@ -1,0 +1,96 @@
+// The refusals, in the order of their numbers: what a caller can break is refused and not required.
+use sheet::device::Device;
+use sheet::settings::Settings;
+ghost use mathlib.Core.Path.{_≡_};
+ghost use lib.Dec.{eqb};
+ghost use Rattle.lent.specs.Refusal.{numberOf, isArray, isRegister, bytesFor, refusalOf};
+
+// Why a call is refused, or that it is not.
+pub enum Refusal {
+    Accepted,
+    ArrayLength,
+    RegisterLength,
+    InputLength,
+    BitCount,
+    OutputLength,
+    Record,
+    Duration,
+}
+
+impl Refusal {
+    // Whether there is none.
+    pub fn is_accepted(self) -> bool
+        ensures { λ r. ⌜ r ≡ eqb (numberOf self) 0 ⌝ }
+    {
+        match self {
+            Refusal::Accepted => true,
+            Refusal::ArrayLength => false,
+            Refusal::RegisterLength => false,
+            Refusal::InputLength => false,
+            Refusal::BitCount => false,
+            Refusal::OutputLength => false,
+            Refusal::Record => false,
+            Refusal::Duration => false,
+        }
+    }
+}
+
+// How long the lent array, the lent register, the input and the lent output buffer are.
+pub struct Lengths {
+    pub array: usize,
+    pub register: usize,
+    pub input: usize,
+    pub output: usize,
+}
+
+// The most bytes that a frame may have.
+const MOST: usize = 8192;
+
+// Whether an array of that length is the part's: its own, or the bench's small one.
+pub(crate) fn is_array(length: usize) -> bool
+    ensures { λ r. ⌜ r ≡ isArray length ⌝ }
+{
+    (length == 131072) | (length == 65536)
+}
+
+// Whether a security register of that length is the part's.
+pub(crate) fn is_register(length: usize) -> bool
+    ensures { λ r. ⌜ r ≡ isRegister length ⌝ }
+{
+    length == 128
+}
+
+// The bytes that so many bits need, for any number of bits.
+fn bytes_for(bits: u64) -> u64
+    ensures { λ r. ⌜ r ≡ bytesFor bits ⌝ }
+{
+    bits / 8 + (bits % 8 + 7) / 8
+}
+
+// Why a call is refused, by the lowest number that applies.
+pub fn refusal_of(device: Device, settings: Settings, bits: u64, lengths: Lengths) -> Refusal
+    ensures { λ r. ⌜ numberOf r ≡ refusalOf device settings bits lengths ⌝ }
+{
+    if !is_array(lengths.array) {
+        return Refusal::ArrayLength;
+    }
+    if !is_register(lengths.register) {
+        return Refusal::RegisterLength;
+    }
+    if MOST < lengths.input {
+        return Refusal::InputLength;
+    }
+    if bytes_for(bits) != lengths.input as u64 {
+        return Refusal::BitCount;
+    }
+    if lengths.output < lengths.input {
+        return Refusal::OutputLength;
+    }
+    if device.is_unsound() {
+        return Refusal::Record;
+    }
+    if settings.is_unfair() {
+        return Refusal::Duration;
+    }
+    Refusal::Accepted
+}

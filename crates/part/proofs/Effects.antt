@@ -1,0 +1,62 @@
+-- A frame takes effect on the array exactly when demand 2 says. Assumes nothing.
+use Prim.Native.Nat.{ℕ}
+use Prim.Native.String.{String}
+use mathlib.Core.Bool.{Bool, true, false, true≢false, false≢true, _&&_}
+use mathlib.Core.List.{List}
+use mathlib.Core.Logic.{_≢_}
+use mathlib.Core.Path.{_≡_, refl, sym, ap, _∙_}
+use lib.Dec.{eqb}
+use lib.ListN.{length, getD}
+use Rattle.cells.specs.Each.{each}
+use Rattle.cells.proofs.Places.{each-same}
+use Rattle.sheet.specs.declared.judge.Action.{Action}
+use Rattle.sheet.specs.Begins.{changesArray, ready}
+use Rattle.sheet.proofs.Begins.{exactly-when}
+use Rattle.sheet.proofs.Leaves.{as-asked}
+use Rattle.part.specs.Words.{wordOf}
+use Rattle.part.specs.Operations.{cellOf, onArray}
+use Rattle.part.specs.Frame.{Call, Lent, numberFor, timed, factsOf, judgedOf, arrayAfter, frame}
+use Rattle.part.specs.Effect.{takesEffect, operationOf}
+
+module _ (c : Call) (m : Lent) where
+  -- judging begins an operation on the array when the frame is ready
+  begins : changesArray (judgedOf c .action) ≡ ready (timed c) (factsOf c)
+  unfolding judgedOf
+  begins = exactly-when (timed c) (c .settings) (factsOf c)
+
+  -- an action that does not change the array leaves it alone
+  idle : (a : Action) → changesArray a ≡ false → each (cellOf (onArray a (length (m .array)) (c .input))) (m .array) ≡ m .array
+  idle Action.Still e = sym (each-same (m .array))
+  idle (Action.Drive source) e = sym (each-same (m .array))
+  idle Action.Program e = absurd (true≢false e)
+  idle (Action.Erase region) e = absurd (true≢false e)
+  idle Action.Otp e = sym (each-same (m .array))
+
+  -- only then: the array stays, unless the frame takes effect
+  pub only-then : takesEffect c m ≡ false → frame c m .lent .array ≡ m .array
+  unfolding frame
+  only-then e = by (eqb (numberFor c m) 0) refl e
+    where
+      by : (b : Bool) → eqb (numberFor c m) 0 ≡ b → (b && ready (timed c) (factsOf c)) ≡ false → frame c m .lent .array ≡ m .array
+      by true t e = rw t (idle (judgedOf c .action) (begins ∙ e))
+      by false t e = rw t
+
+  -- a byte that is not what it was tells that it did
+  pub changed-then : (k : ℕ) → getD (frame c m .lent .array) k 0 ≢ getD (m .array) k 0 → takesEffect c m ≡ true
+  changed-then k d = by (takesEffect c m) refl
+    where
+      by : (b : Bool) → takesEffect c m ≡ b → b ≡ true
+      by true e = refl
+      by false e = absurd (d (ap (λ (xs : List ℕ). getD xs k 0) (only-then e)))
+
+  -- and then always: the operation that the opcode asks for is carried out, and the outcome is begun
+  pub then-always : takesEffect c m ≡ true → (frame c m .lent .array ≡ each (cellOf (operationOf c m)) (m .array)) × (frame c m .outcome ≡ "begun")
+  unfolding frame judgedOf
+  then-always e = by (eqb (numberFor c m) 0) refl e
+    where
+      by : (b : Bool) → eqb (numberFor c m) 0 ≡ b → (b && ready (timed c) (factsOf c)) ≡ true
+          → (frame c m .lent .array ≡ each (cellOf (operationOf c m)) (m .array)) × (frame c m .outcome ≡ "begun")
+      by true t e =
+          let w = as-asked (timed c) (c .settings) (factsOf c) (begins ∙ e) in
+          rw t (ap (λ (a : Action). each (cellOf (onArray a (length (m .array)) (c .input))) (m .array)) (w .0), ap wordOf (w .1))
+      by false t e = absurd (false≢true e)

@@ -1,0 +1,5 @@
+pub mod Blocks
+pub mod Lines
+pub mod Frames
+pub mod Answers
+pub mod Effects

@@ -1,0 +1,27 @@
+use Prim.Native.Nat.{_%_, _<_}
+use native.Mathlib.Nat.{mod-lt}
+use native.Mathlib.Omega.{arith}
+use lib.ListN.{length}
+use borrow.Author.Needs.{needs}
+use Rattle.part.proofs.memory.program.Statement.{statement}
+use Rattle.part.proofs.memory.program.Tie as tie
+
+mul-program-page : tie.Need-mul-program-page
+mul-program-page c = let l : c .before .address-of .result % length (c .before .before .before .before .args .array .now) < length (c .before .before .before .before .args .array .now) = mod-lt _ (c .before .before .before .before .pre .0) in omega arith
+
+program-page-requires : tie.Need-program-page-requires
+program-page-requires c κs = let l : c .before .address-of .result % length (c .before .before .before .before .args .array .now) < length (c .before .before .before .before .args .array .now) = mod-lt _ (c .before .before .before .before .pre .0) in (omega arith, omega arith)
+
+returns : tie.Need-returns
+returns c = rw (c .before .before .program-page .ensures, c .before .before .before .before .address-of .ensures)
+
+pub program-spec : {M : Type 1} → statement M
+program-spec =
+    tie.close
+    (tie.spec
+    (λ c κs. search needs)
+    (λ c. search needs)
+    mul-program-page
+    program-page-requires
+    (λ c. search needs)
+    returns)

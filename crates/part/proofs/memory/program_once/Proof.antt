@@ -1,0 +1,15 @@
+use borrow.Author.Needs.{needs}
+use Rattle.part.proofs.memory.program_once.Statement.{statement}
+use Rattle.part.proofs.memory.program_once.Tie as tie
+
+returns : tie.Need-returns
+returns c = rw (c .before .before .program-register .ensures, c .before .before .before .address-of .ensures)
+
+pub program-once-spec : {M : Type 1} → statement M
+program-once-spec =
+    tie.close
+    (tie.spec
+    (λ c κs. search needs)
+    (λ c κs. search needs)
+    (λ c. search needs)
+    returns)

@@ -1,0 +1,119 @@
+-- One call, one chip-select frame: what comes back and what the lent memories then hold, from what is handed in. Assumes nothing.
+use Prim.Native.Nat.{ℕ}
+use Prim.Native.String.{String}
+use mathlib.Core.Bool.{Bool, cond}
+use mathlib.Core.List.{List}
+use lib.Dec.{eqb}
+use lib.ListN.{length, getD}
+use Rattle.cells.specs.Each.{each, stored}
+use Rattle.cells.specs.Range.{range}
+use Rattle.sheet.specs.declared.device.Device.{Device}
+use Rattle.sheet.specs.declared.settings.Settings.{Settings}
+use Rattle.sheet.specs.declared.judge.Facts.{Facts}
+use Rattle.sheet.specs.declared.judge.Judged.{Judged}
+use Rattle.sheet.specs.Device.{passed}
+use Rattle.sheet.specs.Judging.{judged}
+use Rattle.lent.specs.declared.refusal.Lengths.{Lengths}
+use Rattle.lent.specs.Refusal.{numberOf, refusalOf}
+use Rattle.part.specs.declared.frame.Signals.{Signals}
+use Rattle.part.specs.declared.frame.Answer.{Answer}
+use Rattle.part.specs.Words.{wordOf}
+use Rattle.part.specs.Operations.{cellOf, onArray, onRegister}
+use Rattle.part.specs.Output.{store, readAt}
+
+-- what a call is handed, beside the memories: the record, the settings, the input bytes, and the bits clocked, WP's level and the
+-- ticks elapsed
+pub record Call : Type 0 where
+  pub device : Device
+  pub settings : Settings
+  pub input : List ℕ
+  pub signals : Signals
+
+abbrev pub call : Device → Settings → List ℕ → Signals → Call
+call device settings input signals = record { device = device; settings = settings; input = input; signals = signals }
+
+-- the memories that it is lent
+pub record Lent : Type 0 where
+  pub array : List ℕ
+  pub register : List ℕ
+  pub output : List ℕ
+
+abbrev pub lent : List ℕ → List ℕ → List ℕ → Lent
+lent array register output = record { array = array; register = register; output = output }
+
+-- what comes back, by the paper's number and word, and what the memories then hold
+pub record Result : Type 0 where
+  pub refusal : ℕ
+  pub outcome : String
+  pub first : ℕ
+  pub driven : ℕ
+  pub device : Device
+  pub lent : Lent
+
+abbrev pub lengthsOf : Call → Lent → Lengths
+lengthsOf c m = record { array = length (m .array); register = length (m .register); input = length (c .input); output = length (m .output) }
+
+-- why it is refused; 0 if it is not
+unfoldable pub numberFor : Call → Lent → ℕ
+numberFor c m = refusalOf (c .device) (c .settings) (c .signals .bits) (lengthsOf c m)
+
+-- first the elapsed ticks come off the busy ticks
+abbrev pub timed : Call → Device
+timed c = passed (c .device) (c .signals .elapsed)
+
+-- and what judging needs to know is taken from the frame
+abbrev pub factsFor : List ℕ → Signals → Facts
+factsFor input signals =
+    record { code = getD input 0 0; second = getD input 1 0; bytes = length input; bits = signals .bits; wp = signals .wp }
+
+abbrev pub factsOf : Call → Facts
+factsOf c = factsFor (c .input) (c .signals)
+
+-- then the frame is judged
+unfoldable pub judgedOf : Call → Judged
+judgedOf c = judged (timed c) (c .settings) (factsOf c)
+
+-- what the memories then hold: the operations took effect, and of the output the first n bytes are written
+abbrev pub arrayAfter : Call → Lent → List ℕ
+arrayAfter c m = each (cellOf (onArray (judgedOf c .action) (length (m .array)) (c .input))) (m .array)
+
+abbrev pub registerAfter : Call → Lent → List ℕ
+registerAfter c m = each (cellOf (onRegister (judgedOf c .action) (c .input))) (m .register)
+
+abbrev pub outputAfter : Call → Lent → List ℕ
+outputAfter c m =
+    each
+    (stored (range 0 (length (c .input)))
+    (readAt (judgedOf c) (timed c) (c .signals .wp) (c .signals .bits) (store (m .array)) (store (m .register)) (c .input))) (m .output)
+
+-- an accepted call
+abbrev pub answered : Call → Lent → Result
+answered c m =
+    record {
+      refusal = 0;
+      outcome = wordOf (judgedOf c .outcome);
+      first = judgedOf c .first;
+      driven = judgedOf c .driven;
+      device = judgedOf c .device;
+      lent = lent (arrayAfter c m) (registerAfter c m) (outputAfter c m);
+    }
+
+-- a refused one: the record as it came in, outcome nothing, positions 0 and 0, every lent byte as it was
+abbrev pub refused : ℕ → Call → Lent → Result
+refused number c m = record { refusal = number; outcome = "nothing"; first = 0; driven = 0; device = c .device; lent = m }
+
+-- ONE FRAME
+unfoldable pub frame : Call → Lent → Result
+frame c m = cond (eqb (numberFor c m) 0) (answered c m) (refused (numberFor c m) c m)
+
+-- an answer of the code, by the paper's number and word
+abbrev pub resultOf : Answer → Lent → Result
+resultOf a m =
+    record {
+      refusal = numberOf (a .refusal);
+      outcome = wordOf (a .outcome);
+      first = a .first;
+      driven = a .driven;
+      device = a .device;
+      lent = m;
+    }

@@ -1,0 +1,6 @@
+pub mod Words
+pub mod Operations
+pub mod Output
+pub mod Steps
+pub mod Frame
+pub mod Effect

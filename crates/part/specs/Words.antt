@@ -1,0 +1,10 @@
+-- The outcomes, by the paper's words. (The refusals' numbers are `numberOf` of `lent`.) Assumes nothing.
+use Prim.Native.String.{String}
+use Rattle.sheet.specs.declared.judge.Outcome.{Outcome}
+
+abbrev pub wordOf : Outcome → String
+wordOf Outcome.Nothing = "nothing"
+wordOf Outcome.Read = "read"
+wordOf Outcome.Control = "control"
+wordOf Outcome.Aborted = "aborted"
+wordOf Outcome.Begun = "begun"

@@ -1,0 +1,87 @@
+// One chip-select frame.
+use crate::bytes::byte_at;
+use crate::memory::carry_out;
+use crate::output::show;
+use lent::refusal::refusal_of;
+use lent::refusal::Lengths;
+use lent::refusal::Refusal;
+use sheet::device::Device;
+use sheet::judge::judge;
+use sheet::judge::Facts;
+use sheet::judge::Outcome;
+use sheet::settings::Settings;
+ghost use mathlib.Core.Path.{_≡_};
+ghost use Rattle.part.specs.Frame as spec;
+
+// The bits clocked, whether WP is high for the whole frame, and the ticks elapsed since the call before.
+pub struct Signals {
+    pub bits: u64,
+    pub wp: bool,
+    pub elapsed: u64,
+}
+
+// Why the call was refused, its outcome, the first driven position, how many are driven, and the record as it then stands.
+pub struct Answer {
+    pub refusal: Refusal,
+    pub outcome: Outcome,
+    pub first: usize,
+    pub driven: usize,
+    pub device: Device,
+}
+
+// What judging needs to know of a frame.
+fn facts_of(input: &[u8], signals: Signals) -> Facts
+    ensures { λ r. ⌜ r ≡ spec.factsFor (now (input .entry)) signals ⌝ }
+{
+    Facts {
+        code: byte_at(input, 0),
+        second: byte_at(input, 1),
+        bytes: input.len(),
+        bits: signals.bits,
+        wp: signals.wp,
+    }
+}
+
+// An accepted call: time passes, the frame is judged, the output shows what the part drives, and what is to be done is done.
+fn served(device: Device, settings: Settings, array: &mut [u8], register: &mut [u8], input: &[u8], signals: Signals, output: &mut [u8]) -> Answer
+    requires { ⌜ spec.numberFor (spec.call device settings (now input) signals) (spec.lent (now array) (now register) (now output)) ≡ 0 ⌝ }
+    ensures { λ r. ⌜ spec.resultOf r (spec.lent (now (array .exit)) (now (register .exit)) (now (output .exit))) ≡ spec.answered (spec.call device settings (now (input .entry)) signals) (spec.lent (now (array .entry)) (now (register .entry)) (now (output .entry))) ⌝ }
+{
+    let timed = device.passed(signals.elapsed);
+    let judged = judge(timed, settings, facts_of(input, signals));
+    show(judged, timed, signals.wp, signals.bits, array, register, input, output);
+    let action = judged.action;
+    carry_out(action, array, register, input);
+    let outcome = judged.outcome;
+    let after = judged.device;
+    Answer {
+        refusal: Refusal::Accepted,
+        outcome,
+        first: judged.first,
+        driven: judged.driven,
+        device: after,
+    }
+}
+
+// One call, one frame: whatever is handed in, it ends, and answers as the definition of a frame says.
+pub fn frame(device: Device, settings: Settings, array: &mut [u8], register: &mut [u8], input: &[u8], signals: Signals, output: &mut [u8]) -> Answer
+    ensures { λ r. ⌜ spec.resultOf r (spec.lent (now (array .exit)) (now (register .exit)) (now (output .exit))) ≡ spec.frame (spec.call device settings (now (input .entry)) signals) (spec.lent (now (array .entry)) (now (register .entry)) (now (output .entry))) ⌝ }
+{
+    let lengths = Lengths {
+        array: array.len(),
+        register: register.len(),
+        input: input.len(),
+        output: output.len(),
+    };
+    let refusal = refusal_of(device, settings, signals.bits, lengths);
+    if refusal.is_accepted() {
+        return served(device, settings, array, register, input, signals, output);
+    }
+    Answer {
+        refusal,
+        outcome: Outcome::Nothing,
+        first: 0,
+        driven: 0,
+        device,
+    }
+}

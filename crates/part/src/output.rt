@@ -1,0 +1,81 @@
+// What the output positions of a frame read.
+use crate::bytes::address_of;
+use cells::copy::copy_out;
+use cells::range::fill;
+use opcodes::Source;
+use sheet::device::Device;
+use sheet::judge::Action;
+use sheet::judge::Judged;
+use sheet::status::status_one;
+use sheet::status::status_two;
+ghost use mathlib.Core.Path.{_≡_};
+ghost use Prim.Native.Nat.{_+_, _/_, _≤_, _<_};
+ghost use lib.ListN.{length};
+ghost use Rattle.cells.specs.Each.{each, stored};
+ghost use Rattle.cells.specs.Range.{range};
+ghost use Rattle.part.specs.Output.{store, readAt};
+ghost use Rattle.part.specs.Steps.{sent, driven, clipped};
+
+// The positions from `first` up to `end` receive the source's bytes.
+fn send(source: Source, device: Device, wp: bool, array: &[u8], register: &[u8], input: &[u8], first: usize, end: usize, output: &mut [u8])
+    requires { ⌜ (0 < length (now array)) × (0 < length (now register)) × (first ≤ end) × (end ≤ length (now output)) ⌝ }
+    ensures { λ _. ⌜ now (output .exit) ≡ each (sent source device wp (store (now (array .entry))) (store (now (register .entry))) (now (input .entry)) first end) (now (output .entry)) ⌝ }
+{
+    match source {
+        Source::Array => copy_out(output, first, end, array, address_of(input) % array.len()),
+        Source::Register => copy_out(output, first, end, register, address_of(input) % register.len()),
+        Source::Status => {
+            let bytes = [status_one(device, wp), status_two(device)];
+            copy_out(output, first, end, &bytes, 0);
+        }
+        Source::Identity => {
+            let bytes = [0x1Fu8, 0x42u8, 0x00u8, 0x00u8];
+            copy_out(output, first, end, &bytes, 0);
+        }
+        Source::Legacy => {
+            let bytes = [0x1Fu8, 0x65u8];
+            copy_out(output, first, end, &bytes, 0);
+        }
+    }
+}
+
+// A read drives its positions; nothing else drives any.
+fn drive(judged: Judged, device: Device, wp: bool, array: &[u8], register: &[u8], input: &[u8], output: &mut [u8])
+    requires { ⌜ (0 < length (now array)) × (0 < length (now register)) × (judged .first + judged .driven ≤ length (now output)) ⌝ }
+    ensures { λ _. ⌜ now (output .exit) ≡ each (driven (judged .action) judged device wp (store (now (array .entry))) (store (now (register .entry))) (now (input .entry))) (now (output .entry)) ⌝ }
+{
+    let first = judged.first;
+    let end = first + judged.driven;
+    let action = judged.action;
+    match action {
+        Action::Still => {}
+        Action::Drive(source) => send(source, device, wp, array, register, input, first, end, output),
+        Action::Program => {}
+        Action::Erase(_) => {}
+        Action::Otp => {}
+    }
+}
+
+// In a last byte that was clocked in part, the other bits read 1.
+fn clip(output: &mut [u8], bytes: usize, bits: u64)
+    requires { ⌜ (bytes ≤ length (now output)) × ((bits + 7) / 8 ≡ bytes) ⌝ }
+    ensures { λ _. ⌜ now (output .exit) ≡ each (clipped bytes bits) (now (output .entry)) ⌝ }
+{
+    let clocked = bits % 8;
+    if clocked != 0 {
+        let last = bytes - 1;
+        output[last] = output[last] | (255u8 >> clocked);
+    }
+}
+
+// Each position of the frame reads what is on the line.
+pub(crate) fn show(judged: Judged, device: Device, wp: bool, bits: u64, array: &[u8], register: &[u8], input: &[u8], output: &mut [u8])
+    requires { ⌜ (0 < length (now array)) × (0 < length (now register)) ⌝ }
+    requires { ⌜ (judged .first + judged .driven ≤ length (now input)) × (length (now input) ≤ length (now output)) × ((bits + 7) / 8 ≡ length (now input)) ⌝ }
+    ensures { λ _. ⌜ now (output .exit) ≡ each (stored (range 0 (length (now (input .entry)))) (readAt judged device wp bits (store (now (array .entry))) (store (now (register .entry))) (now (input .entry)))) (now (output .entry)) ⌝ }
+{
+    let bytes = input.len();
+    fill(output, 0, bytes, 255);
+    drive(judged, device, wp, array, register, input, output);
+    clip(output, bytes, bits);
+}
