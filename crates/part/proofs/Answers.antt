@@ -44,7 +44,8 @@ same-answer a b p q r s t =
 
 pub one-answer : (c : Call) (m : Lent) (a b : Answer) (n o : Lent) → resultOf a n ≡ frame c m → resultOf b o ≡ frame c m → (a ≡ b) × (n ≡ o)
 one-answer c m a b n o p q =
-    let e : resultOf a n ≡ resultOf b o = p ∙ sym q in
-    (same-answer a b (number-tells (a .refusal) (b .refusal) (ap (λ (r : Result). r .refusal) e)) (word-tells (a .outcome) (b .outcome) (ap (λ (r : Result). r .outcome) e))
-    (ap (λ (r : Result). r .first) e) (ap (λ (r : Result). r .driven) e) (ap (λ (r : Result). r .device) e),
-    ap (λ (r : Result). r .lent) e)
+    let e : resultOf a n ≡ resultOf b o = p ∙ sym q in (
+      same-answer a b (number-tells (a .refusal) (b .refusal) (ap (λ (r : Result). r .refusal) e)) (word-tells (a .outcome) (b .outcome) (ap (λ (r : Result). r .outcome) e))
+          (ap (λ (r : Result). r .first) e) (ap (λ (r : Result). r .driven) e) (ap (λ (r : Result). r .device) e),
+      ap (λ (r : Result). r .lent) e,
+    )

@@ -58,8 +58,10 @@ clip-last bytes bits xs n l z = is-each (clipped bytes bits) xs clip (length-set
   where
     last : ℕ
     last = bytes - 1
+
     clip : List ℕ
     clip = set xs last (bitOr (getD xs last 0) (0xFF / 2 ^ (bits % 8)))
+
     by : (k : ℕ) → k < length xs → Dec (k ≡ last) → getD clip k 0 ≡ clipped bytes bits k (getD xs k 0)
     by k m (yes q) =
         let e : bits % 8 ≡ bits - 8 * last = omega arith in

@@ -2,13 +2,13 @@
 use crate::bytes::byte_at;
 use crate::memory::carry_out;
 use crate::output::show;
-use lent::refusal::refusal_of;
 use lent::refusal::Lengths;
 use lent::refusal::Refusal;
+use lent::refusal::refusal_of;
 use sheet::device::Device;
-use sheet::judge::judge;
 use sheet::judge::Facts;
 use sheet::judge::Outcome;
+use sheet::judge::judge;
 use sheet::settings::Settings;
 ghost use mathlib.Core.Path.{_≡_};
 ghost use Rattle.part.specs.Frame as spec;
@@ -43,13 +43,30 @@ fn facts_of(input: &[u8], signals: Signals) -> Facts
 }
 
 // An accepted call: time passes, the frame is judged, the output shows what the part drives, and what is to be done is done.
-fn served(device: Device, settings: Settings, array: &mut [u8], register: &mut [u8], input: &[u8], signals: Signals, output: &mut [u8]) -> Answer
+fn served(
+    device: Device,
+    settings: Settings,
+    array: &mut [u8],
+    register: &mut [u8],
+    input: &[u8],
+    signals: Signals,
+    output: &mut [u8],
+) -> Answer
     requires { ⌜ spec.numberFor (spec.call device settings (now input) signals) (spec.lent (now array) (now register) (now output)) ≡ 0 ⌝ }
     ensures { λ r. ⌜ spec.resultOf r (spec.lent (now (array .exit)) (now (register .exit)) (now (output .exit))) ≡ spec.answered (spec.call device settings (now (input .entry)) signals) (spec.lent (now (array .entry)) (now (register .entry)) (now (output .entry))) ⌝ }
 {
     let timed = device.passed(signals.elapsed);
     let judged = judge(timed, settings, facts_of(input, signals));
-    show(judged, timed, signals.wp, signals.bits, array, register, input, output);
+    show(
+        judged,
+        timed,
+        signals.wp,
+        signals.bits,
+        array,
+        register,
+        input,
+        output,
+    );
     let action = judged.action;
     carry_out(action, array, register, input);
     let outcome = judged.outcome;
@@ -64,7 +81,15 @@ fn served(device: Device, settings: Settings, array: &mut [u8], register: &mut [
 }
 
 // One call, one frame: whatever is handed in, it ends, and answers as the definition of a frame says.
-pub fn frame(device: Device, settings: Settings, array: &mut [u8], register: &mut [u8], input: &[u8], signals: Signals, output: &mut [u8]) -> Answer
+pub fn frame(
+    device: Device,
+    settings: Settings,
+    array: &mut [u8],
+    register: &mut [u8],
+    input: &[u8],
+    signals: Signals,
+    output: &mut [u8],
+) -> Answer
     ensures { λ r. ⌜ spec.resultOf r (spec.lent (now (array .exit)) (now (register .exit)) (now (output .exit))) ≡ spec.frame (spec.call device settings (now (input .entry)) signals) (spec.lent (now (array .entry)) (now (register .entry)) (now (output .entry))) ⌝ }
 {
     let lengths = Lengths {

@@ -17,13 +17,29 @@ ghost use Rattle.part.specs.Output.{store, readAt};
 ghost use Rattle.part.specs.Steps.{sent, driven, clipped};
 
 // The positions from `first` up to `end` receive the source's bytes.
-fn send(source: Source, device: Device, wp: bool, array: &[u8], register: &[u8], input: &[u8], first: usize, end: usize, output: &mut [u8])
+fn send(
+    source: Source,
+    device: Device,
+    wp: bool,
+    array: &[u8],
+    register: &[u8],
+    input: &[u8],
+    first: usize,
+    end: usize,
+    output: &mut [u8],
+)
     requires { ⌜ (0 < length (now array)) × (0 < length (now register)) × (first ≤ end) × (end ≤ length (now output)) ⌝ }
     ensures { λ _. ⌜ now (output .exit) ≡ each (sent source device wp (store (now (array .entry))) (store (now (register .entry))) (now (input .entry)) first end) (now (output .entry)) ⌝ }
 {
     match source {
         Source::Array => copy_out(output, first, end, array, address_of(input) % array.len()),
-        Source::Register => copy_out(output, first, end, register, address_of(input) % register.len()),
+        Source::Register => copy_out(
+            output,
+            first,
+            end,
+            register,
+            address_of(input) % register.len(),
+        ),
         Source::Status => {
             let bytes = [status_one(device, wp), status_two(device)];
             copy_out(output, first, end, &bytes, 0);
@@ -40,7 +56,15 @@ fn send(source: Source, device: Device, wp: bool, array: &[u8], register: &[u8],
 }
 
 // A read drives its positions; nothing else drives any.
-fn drive(judged: Judged, device: Device, wp: bool, array: &[u8], register: &[u8], input: &[u8], output: &mut [u8])
+fn drive(
+    judged: Judged,
+    device: Device,
+    wp: bool,
+    array: &[u8],
+    register: &[u8],
+    input: &[u8],
+    output: &mut [u8],
+)
     requires { ⌜ (0 < length (now array)) × (0 < length (now register)) × (judged .first + judged .driven ≤ length (now output)) ⌝ }
     ensures { λ _. ⌜ now (output .exit) ≡ each (driven (judged .action) judged device wp (store (now (array .entry))) (store (now (register .entry))) (now (input .entry))) (now (output .entry)) ⌝ }
 {
@@ -49,7 +73,17 @@ fn drive(judged: Judged, device: Device, wp: bool, array: &[u8], register: &[u8]
     let action = judged.action;
     match action {
         Action::Still => {}
-        Action::Drive(source) => send(source, device, wp, array, register, input, first, end, output),
+        Action::Drive(source) => send(
+            source,
+            device,
+            wp,
+            array,
+            register,
+            input,
+            first,
+            end,
+            output,
+        ),
         Action::Program => {}
         Action::Erase(_) => {}
         Action::Otp => {}
@@ -69,7 +103,16 @@ fn clip(output: &mut [u8], bytes: usize, bits: u64)
 }
 
 // Each position of the frame reads what is on the line.
-pub(crate) fn show(judged: Judged, device: Device, wp: bool, bits: u64, array: &[u8], register: &[u8], input: &[u8], output: &mut [u8])
+pub(crate) fn show(
+    judged: Judged,
+    device: Device,
+    wp: bool,
+    bits: u64,
+    array: &[u8],
+    register: &[u8],
+    input: &[u8],
+    output: &mut [u8],
+)
     requires { ⌜ (0 < length (now array)) × (0 < length (now register)) ⌝ }
     requires { ⌜ (judged .first + judged .driven ≤ length (now input)) × (length (now input) ≤ length (now output)) × ((bits + 7) / 8 ≡ length (now input)) ⌝ }
     ensures { λ _. ⌜ now (output .exit) ≡ each (stored (range 0 (length (now (input .entry)))) (readAt judged device wp bits (store (now (array .entry))) (store (now (register .entry))) (now (input .entry)))) (now (output .entry)) ⌝ }

@@ -76,6 +76,7 @@ within d s f = each-answer d s f (λ (j : Judged). j .first + j .driven ≤ f .b
         by : Dec (driven (rowOf (f .code)) f ≡ 0) → cond (eqb (driven (rowOf (f .code)) f) 0) 0 (rowOf (f .code) .first) + driven (rowOf (f .code)) f ≤ f .bytes
         by (yes z) = rw (eq-eqb (driven (rowOf (f .code)) f) 0 z) (omega arith)
         by (no z) = rw (ne-eqb (driven (rowOf (f .code)) f) 0 z) (omega arith)
+
     of-work : (work : Work) → rowOf (f .code) .command ≡ Works work → carried work d s f .first + carried work d s f .driven ≤ f .bytes
     of-work Work.Program e = omega arith
     of-work (Work.Erase region) e = omega arith

@@ -12,11 +12,11 @@ copy-out-requires-2 : tie.Need-copy-out-requires-2
 copy-out-requires-2 c κs = (search needs, search needs, mod-lt _ (c .before .before .before .before .before .before .before .before .pre .1))
 
 returns : tie.Need-returns
-returns c = rw (c .before .before .before .before .before .enum-told .given .1, c .before .before .copy-out .ensures, c .before .before .before .address-of .ensures) 
+returns c = rw (c .before .before .before .before .before .enum-told .given .1, c .before .before .copy-out .ensures, c .before .before .before .address-of .ensures)
     (from-address (c .before .before .before .before .before .before .before .before .before .before .before .args .array .now) (addressOf (c .before .before .before .before .before .before .before .before .before .before .before .args .input .now)) (c .before .before .before .before .before .before .before .before .before .before .before .args .first) (c .before .before .before .before .before .before .before .before .before .before .before .args .end) (c .before .before .before .before .before .before .before .before .before .before .before .args .output .now))
 
 returns-2 : tie.Need-returns-2
-returns-2 c = rw (c .before .before .before .before .before .enum-told2 .given .1, c .before .before .copy-out2 .ensures, c .before .before .before .address-of2 .ensures) 
+returns-2 c = rw (c .before .before .before .before .before .enum-told2 .given .1, c .before .before .copy-out2 .ensures, c .before .before .before .address-of2 .ensures)
     (from-address (c .before .before .before .before .before .before .before .before .before .before .before .args .register .now) (addressOf (c .before .before .before .before .before .before .before .before .before .before .before .args .input .now)) (c .before .before .before .before .before .before .before .before .before .before .before .args .first) (c .before .before .before .before .before .before .before .before .before .before .before .args .end) (c .before .before .before .before .before .before .before .before .before .before .before .args .output .now))
 
 returns-3 : tie.Need-returns-3
