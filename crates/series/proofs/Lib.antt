@@ -1,0 +1,4 @@
+pub mod Halves
+pub mod Told
+pub mod Runs
+pub mod Worked

@@ -1,0 +1,5 @@
+pub mod Series
+pub mod Worked
+pub mod Words
+pub mod Table
+pub mod Further

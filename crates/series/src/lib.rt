@@ -1,0 +1,1 @@
+// Series of calls: no code, only definitions and theorems over `part`.
