@@ -6,9 +6,9 @@ use native.Mathlib.Omega.{arith}
 use borrow.Author.Tests.{ltb-false, eqb-true, not-false}
 use lib.Dec.{eqb}
 use Rattle.sheet.specs.declared.device.Device.{Device}
-use Rattle.sheet.specs.declared.settings.Settings.{Settings}
+use Rattle.settings.specs.declared.Settings.{Settings}
 use Rattle.sheet.specs.Device.{unsound}
-use Rattle.sheet.specs.Settings.{anyUnfair}
+use Rattle.settings.specs.Settings.{anyUnfair}
 use Rattle.lent.specs.declared.refusal.Lengths.{Lengths}
 use Rattle.lent.specs.Refusal.{isArray, isRegister, bytesFor, refusalOf}
 

@@ -4,9 +4,9 @@ use Prim.Native.Nat.{ℕ, _+_, _/_}
 use mathlib.Core.Bool.{Bool, cond, not, _||_}
 use lib.Dec.{ltb, eqb}
 use Rattle.sheet.specs.declared.device.Device.{Device}
-use Rattle.sheet.specs.declared.settings.Settings.{Settings}
+use Rattle.settings.specs.declared.Settings.{Settings}
 use Rattle.sheet.specs.Device.{unsound}
-use Rattle.sheet.specs.Settings.{anyUnfair}
+use Rattle.settings.specs.Settings.{anyUnfair}
 use Rattle.lent.specs.declared.refusal.Refusal.{Refusal}
 use Rattle.lent.specs.declared.refusal.Lengths.{Lengths}
 

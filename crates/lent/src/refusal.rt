@@ -1,6 +1,6 @@
 // The refusals, in the order of their numbers: what a caller can break is refused and not required.
+use settings::Settings;
 use sheet::device::Device;
-use sheet::settings::Settings;
 ghost use mathlib.Core.Path.{_≡_};
 ghost use lib.Dec.{eqb};
 ghost use Rattle.lent.specs.Refusal.{numberOf, isArray, isRegister, bytesFor, refusalOf};

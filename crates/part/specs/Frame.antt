@@ -8,7 +8,7 @@ use lib.ListN.{length, getD}
 use Rattle.cells.specs.Each.{each, stored}
 use Rattle.cells.specs.Range.{range}
 use Rattle.sheet.specs.declared.device.Device.{Device}
-use Rattle.sheet.specs.declared.settings.Settings.{Settings}
+use Rattle.settings.specs.declared.Settings.{Settings}
 use Rattle.sheet.specs.declared.judge.Facts.{Facts}
 use Rattle.sheet.specs.declared.judge.Judged.{Judged}
 use Rattle.sheet.specs.Device.{passed}

@@ -10,7 +10,7 @@ use Rattle.opcodes.specs.declared.Source.the-variants.{Array, Register, Status,
 use Rattle.sheet.specs.declared.device.Device.{Device}
 use Rattle.sheet.specs.declared.judge.Action.{Action}
 use Rattle.sheet.specs.declared.judge.Judged.{Judged}
-use Rattle.sheet.specs.Status.{statusOne, statusTwo}
+use Rattle.status.specs.Status.{statusOne, statusTwo}
 use Rattle.part.specs.Operations.{addressOf}
 
 -- what can be read: so many bytes, and the byte at each place

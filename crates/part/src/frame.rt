@@ -5,11 +5,11 @@ use crate::output::show;
 use lent::refusal::Lengths;
 use lent::refusal::Refusal;
 use lent::refusal::refusal_of;
+use settings::Settings;
 use sheet::device::Device;
 use sheet::judge::Facts;
 use sheet::judge::Outcome;
 use sheet::judge::judge;
-use sheet::settings::Settings;
 ghost use mathlib.Core.Path.{_≡_};
 ghost use Rattle.part.specs.Frame as spec;
 

@@ -101,6 +101,7 @@ module _ (s : Step) (t : Scene) (has : 0 < t .array .plain .size) (holds : 0 < t
     where
       j : Judged
       j = judgedOf (callOf s t)
+
       by : (b : Bool)
           → left (cond b (answered (callOf s t) (lentOf s t)) (refused (numberTold s t) (callOf s t) (lentOf s t)))
           ≡ stateOf (cond b (moved (judgedOf (callOf s t)) s t) t)

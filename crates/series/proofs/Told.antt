@@ -116,6 +116,7 @@ module _ (array register : Told) (has : 0 < array .plain .size) (holds : 0 < reg
     where
       real : Cell
       real k x = readAt j d wp bits (store (memoryOf array)) (store (memoryOf register)) input k
+
       computed : Cell
       computed k x = readAt j d wp bits (toldStore array) (toldStore register) input k
 
@@ -201,8 +202,10 @@ painted-told t ps fits e =
   where
     test : ℕ → Bool
     test k = eqb (value (t .done) k (t .plain .holds)) (painted ps k (t .plain .holds))
+
     steady : ℕ → ℕ → Bool
     steady low n = steadyOperations (t .done) low n && steadyPieces ps low n
+
     sound : (low n k : ℕ) → steady low n ≡ true → low ≤ k → k < low + n → test k ≡ test low
     sound low n k s p q =
         let w : (steadyOperations (t .done) low n ≡ true) × (steadyPieces ps low n ≡ true) =

@@ -12,7 +12,7 @@ use Rattle.cells.specs.Each.{each, eachFrom, over}
 use Rattle.cells.specs.Page.{covered, last}
 use Rattle.opcodes.specs.Rows.{rowOf, rows, lookup}
 use Rattle.sheet.specs.Judging.{judged, byOpcode}
-use Rattle.sheet.specs.Settings.{anyUnfair}
+use Rattle.settings.specs.Settings.{anyUnfair}
 use Rattle.lent.specs.Refusal.{refusalOf}
 use Rattle.part.specs.Output.{readAt}
 use Rattle.part.specs.Frame.{judgedOf}
@@ -85,11 +85,11 @@ each-holds (r ∷ rs) e f =
 -- THE TABLE: P1 to P10, the session and the limits, each reply, record and byte as the row says
 pub worked-table : EachWorked table
 unfolding table repliesOf wantedOf fitting allFitting agrees everywhere halved steadyOperations steadyPieces steadyFor one-side apart inside value painted repliesTold endTold replyTold next numberTold
-  refusalOf anyUnfair judgedOf judged byOpcode rowOf rows lookup readAt each eachFrom over covered last
+    refusalOf anyUnfair judgedOf judged byOpcode rowOf rows lookup readAt each eachFrom over covered last
 worked-table = each-holds table refl refl
 
 -- and the rows beyond it
 pub worked-further : EachWorked further
 unfolding further repliesOf wantedOf fitting allFitting agrees everywhere halved steadyOperations steadyPieces steadyFor one-side apart inside value painted repliesTold endTold replyTold next numberTold
-  refusalOf anyUnfair judgedOf judged byOpcode rowOf rows lookup readAt each eachFrom over covered last
+    refusalOf anyUnfair judgedOf judged byOpcode rowOf rows lookup readAt each eachFrom over covered last
 worked-further = each-holds further refl refl

@@ -6,7 +6,7 @@ use lib.ListN.{replicate}
 use Rattle.sheet.specs.declared.device.Device.{Device}
 use Rattle.sheet.specs.declared.device.Mode.{Mode}
 use Rattle.sheet.specs.declared.device.Mode.the-variants.{Awake, Deep, UltraDeep}
-use Rattle.sheet.specs.Settings.{typical}
+use Rattle.settings.specs.Settings.{typical}
 use Rattle.series.specs.Worked.{Exchange, Piece, Row}
 use Rattle.series.specs.Words.{stands, idle, enabled, busy, clocked, whole, low, came, quiet, refused, _⇒_, piece, row}
 

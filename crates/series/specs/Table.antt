@@ -3,7 +3,7 @@ use Prim.Native.Nat.{ℕ}
 use mathlib.Core.Bool.{true, false}
 use mathlib.Core.List.{List, [], _∷_}
 use lib.ListN.{replicate}
-use Rattle.sheet.specs.declared.settings.Settings.{Settings}
+use Rattle.settings.specs.declared.Settings.{Settings}
 use Rattle.series.specs.Worked.{Row}
 use Rattle.series.specs.Words.{stands, idle, enabled, busy, clocked, whole, low, came, quiet, refused, _⇒_, piece, row}
 

@@ -8,7 +8,7 @@ use lib.ListN.{length, replicate}
 use Rattle.cells.specs.Each.{Cell, each}
 use Rattle.cells.specs.Range.{range}
 use Rattle.sheet.specs.declared.device.Device.{Device}
-use Rattle.sheet.specs.declared.settings.Settings.{Settings}
+use Rattle.settings.specs.declared.Settings.{Settings}
 use Rattle.part.specs.Frame.{Result}
 use Rattle.series.specs.Series.{Step, State, results, end}
 

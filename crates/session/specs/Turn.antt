@@ -5,7 +5,7 @@ use mathlib.Core.List.{List}
 use lib.Dec.{ltb}
 use lib.ListN.{length}
 use Rattle.sheet.specs.declared.device.Device.{Device}
-use Rattle.sheet.specs.declared.settings.Settings.{Settings}
+use Rattle.settings.specs.declared.Settings.{Settings}
 use Rattle.part.specs.Frame.{Lent, Result, call, frame}
 
 -- the letter of a digit: 0 to 9 from 30h on, A to F from 41h on

@@ -2,9 +2,9 @@
 // reads, and status byte 1 after the call.
 use part::frame::Signals;
 use part::frame::frame;
+use settings::Settings;
 use sheet::device::Device;
-use sheet::settings::Settings;
-use sheet::status::status_one;
+use status::status_one;
 ghost use mathlib.Core.Path.{_≡_};
 ghost use Prim.Native.Nat.{_≤_, _<_};
 ghost use lib.ListN.{length};

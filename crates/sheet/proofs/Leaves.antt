@@ -16,7 +16,7 @@ use Rattle.opcodes.specs.declared.Work.{Work}
 use Rattle.opcodes.specs.Rows.{rowOf}
 use Rattle.sheet.specs.declared.device.Device.{Device}
 use Rattle.sheet.specs.declared.device.Mode.the-variants.{Awake, Deep, UltraDeep}
-use Rattle.sheet.specs.declared.settings.Settings.{Settings}
+use Rattle.settings.specs.declared.Settings.{Settings}
 use Rattle.sheet.specs.declared.judge.Facts.{Facts}
 use Rattle.sheet.specs.declared.judge.Judged.{Judged}
 use Rattle.sheet.specs.declared.judge.Outcome.{Outcome}

@@ -5,6 +5,7 @@ use lib.Dec.{ltb}
 use Rattle.sheet.specs.declared.device.Device.{Device}
 use Rattle.sheet.specs.declared.device.Mode.{Mode}
 use Rattle.sheet.specs.declared.device.Mode.the-variants.{Awake, Deep, UltraDeep}
+use Rattle.settings.specs.Settings.{longest}
 use Rattle.sheet.specs.Bits.{bit}
 
 abbrev device : Bool → Bool → Bool → Bool → Bool → Mode → ℕ → Device
@@ -13,10 +14,6 @@ device bpl bp0 wel rste used mode busy = record { bpl = bpl; bp0 = bp0; wel = we
 -- a fresh record: BPL, BP0 and the OTP-used mark as the caller says, all else clear, awake and idle
 abbrev pub fresh : Bool → Bool → Bool → Device
 fresh bpl bp0 used = device bpl bp0 false false used Awake 0
-
--- the most ticks that an operation may take
-abbrev pub longest : ℕ
-longest = 60000000
 
 abbrev pub awake : Mode → Bool
 awake Awake = true

@@ -15,15 +15,15 @@ use Rattle.opcodes.specs.declared.Work.{Work}
 use Rattle.opcodes.specs.Rows.{rowOf}
 use Rattle.sheet.specs.declared.device.Device.{Device}
 use Rattle.sheet.specs.declared.device.Mode.the-variants.{Awake, Deep, UltraDeep}
-use Rattle.sheet.specs.declared.settings.Settings.{Settings}
-use Rattle.sheet.specs.declared.settings.Kind.{Kind}
-use Rattle.sheet.specs.declared.settings.Kind.the-variants.{ByteProgram, LongerProgram, PageErase, SmallErase, LargeErase, ChipErase, OtpProgram, StatusWrite}
+use Rattle.settings.specs.declared.Settings.{Settings}
+use Rattle.settings.specs.declared.Kind.{Kind}
+use Rattle.settings.specs.declared.Kind.the-variants.{ByteProgram, LongerProgram, PageErase, SmallErase, LargeErase, ChipErase, OtpProgram, StatusWrite}
 use Rattle.sheet.specs.declared.judge.Facts.{Facts}
 use Rattle.sheet.specs.declared.judge.Judged.{Judged}
 use Rattle.sheet.specs.declared.judge.Outcome.{Outcome}
 use Rattle.sheet.specs.declared.judge.Action.{Action}
 use Rattle.sheet.specs.Device.{deep, ultraDeep, isBusy, latched, dropped, moved, woken, working, reset, marked, written, enabled}
-use Rattle.sheet.specs.Settings.{durationOf}
+use Rattle.settings.specs.Settings.{durationOf}
 
 -- an outcome with nothing driven and no memory to change
 abbrev pub quiet : Outcome → Device → Judged

@@ -1,5 +1,5 @@
 // The device record, handed on by value: each method hands back the record as it then stands.
-use crate::LONGEST;
+use settings::LONGEST;
 ghost use mathlib.Core.Bool.{cond};
 ghost use mathlib.Core.Path.{_≡_};
 ghost use Rattle.sheet.specs.Device.{fresh, awake, deep, ultraDeep, isBusy, unsound, passed, latched, dropped, moved, woken, working, reset, marked, written, enabled};

@@ -2,14 +2,14 @@
 // and what is to be done with the memories, whose contents it never sees.
 use crate::device::Device;
 use crate::device::Mode;
-use crate::settings::Kind;
-use crate::settings::Settings;
 use opcodes::Command;
 use opcodes::Order;
 use opcodes::Region;
 use opcodes::Row;
 use opcodes::Source;
 use opcodes::Work;
+use settings::Kind;
+use settings::Settings;
 ghost use mathlib.Core.Path.{_≡_};
 ghost use Rattle.sheet.specs.Judging as judging;
 

@@ -1,9 +1,9 @@
 // The two status bytes.
-use crate::device::Device;
+use sheet::device::Device;
 ghost use mathlib.Core.Bool.{cond};
 ghost use mathlib.Core.Path.{_≡_};
 ghost use Prim.Native.Nat.{_≤_};
-ghost use Rattle.sheet.specs.Status.{statusOne, statusTwo};
+ghost use Rattle.status.specs.Status.{statusOne, statusTwo};
 
 // The bit of that weight, if the flag is up.
 fn weighed(flag: bool, weight: u8) -> u8
@@ -20,12 +20,12 @@ pub fn status_one(device: Device, wp: bool) -> u8
         + weighed(wp, 16)
         + weighed(device.bp0, 4)
         + weighed(device.wel, 2)
-        + weighed(device.is_busy(), 1)
+        + weighed(0 < device.busy, 1)
 }
 
 // Status byte 2.
 pub fn status_two(device: Device) -> u8
     ensures { λ r. ⌜ r ≡ statusTwo device ⌝ }
 {
-    weighed(device.rste, 16) + weighed(device.is_busy(), 1)
+    weighed(device.rste, 16) + weighed(0 < device.busy, 1)
 }

@@ -1,9 +1,12 @@
 -- The status bytes, by the sheet's tables 6 and 7. Assumes nothing.
-use Prim.Native.Nat.{ℕ, _+_}
-use mathlib.Core.Bool.{Bool}
+use Prim.Native.Nat.{ℕ, _+_, _^_}
+use mathlib.Core.Bool.{Bool, cond}
 use Rattle.sheet.specs.declared.device.Device.{Device}
-use Rattle.sheet.specs.Bits.{flag}
 use Rattle.sheet.specs.Device.{isBusy}
+
+-- a byte in which bit n alone says b
+abbrev flag : ℕ → Bool → ℕ
+flag n b = cond b (2 ^ n) 0
 
 -- BPL at bit 7, a high WP at bit 4, BP0 at bit 2, WEL at bit 1, busy at bit 0, and zeros between
 abbrev pub statusOne : Device → Bool → ℕ

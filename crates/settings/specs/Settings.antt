@@ -4,10 +4,13 @@ use mathlib.Core.Bool.{Bool, false, _||_}
 use mathlib.Core.List.{List, [], _∷_}
 use lib.Dec.{ltb, eqb}
 use lib.ListN.{getD}
-use Rattle.sheet.specs.declared.settings.Settings.{Settings}
-use Rattle.sheet.specs.declared.settings.Kind.{Kind}
-use Rattle.sheet.specs.declared.settings.Kind.the-variants.{ByteProgram, LongerProgram, PageErase, SmallErase, LargeErase, ChipErase, OtpProgram, StatusWrite}
-use Rattle.sheet.specs.Device.{longest}
+use Rattle.settings.specs.declared.Settings.{Settings}
+use Rattle.settings.specs.declared.Kind.{Kind}
+use Rattle.settings.specs.declared.Kind.the-variants.{ByteProgram, LongerProgram, PageErase, SmallErase, LargeErase, ChipErase, OtpProgram, StatusWrite}
+
+-- the most ticks that an operation may take
+abbrev pub longest : ℕ
+longest = 60000000
 
 -- the place of each kind, in document 01's order
 abbrev pub placeOf : Kind → ℕ

@@ -1,13 +1,13 @@
--- `sheet::settings::Settings::is_unfair` meets its contract: what the test says of the durations from i on it says of all. Assumes nothing.
+-- `settings::Settings::is_unfair` meets its contract: what the test says of the durations from i on it says of all. Assumes nothing.
 use Prim.Native.Nat.{_-_}
 use mathlib.Core.Path.{_≡_, refl}
 use native.Mathlib.Omega.{arith}
 use borrow.Author.Needs.{needs}
 use lib.ListN.{length, drop}
-use Rattle.sheet.specs.Settings.{anyUnfair}
+use Rattle.settings.specs.Settings.{anyUnfair}
 use Rattle.opcodes.proofs.Search.{from-here, at-end}
-use Rattle.sheet.proofs.settings.Settings.is_unfair.Statement.{statement}
-use Rattle.sheet.proofs.settings.Settings.is_unfair.Tie as tie
+use Rattle.settings.proofs.Settings.is_unfair.Statement.{statement}
+use Rattle.settings.proofs.Settings.is_unfair.Tie as tie
 
 abbrev Inv-loop : tie.InvT-loop
 Inv-loop ticks i₀ i = (length ticks ≡ 8) × (anyUnfair (drop i ticks) ≡ anyUnfair ticks)

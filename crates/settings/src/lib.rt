@@ -1,8 +1,10 @@
 // The settings record: eight durations in ticks, one for each kind of operation.
-use crate::LONGEST;
 ghost use mathlib.Core.Path.{_≡_};
 ghost use Prim.Native.Nat.{_<_};
-ghost use Rattle.sheet.specs.Settings.{placeOf, durationOf, anyUnfair, typical};
+ghost use Rattle.settings.specs.Settings.{placeOf, durationOf, anyUnfair, typical};
+
+// The most ticks that an operation may take: a minute.
+pub const LONGEST: u64 = 60000000;
 
 // The kinds of operation that take time.
 pub enum Kind {
@@ -49,7 +51,7 @@ impl Settings {
     }
 
     // How long an operation of that kind takes.
-    pub(crate) fn duration(self, kind: Kind) -> u64
+    pub fn duration(self, kind: Kind) -> u64
         ensures { λ r. ⌜ r ≡ durationOf self kind ⌝ }
     {
         let ticks = self.ticks;

@@ -1,7 +1,7 @@
--- `sheet::settings::Settings::duration` meets its contract: it reads the place that the kind gives. Assumes nothing.
+-- `settings::Settings::duration` meets its contract: it reads the place that the kind gives. Assumes nothing.
 use borrow.Author.Needs.{needs}
-use Rattle.sheet.proofs.settings.Settings.duration.Statement.{statement}
-use Rattle.sheet.proofs.settings.Settings.duration.Tie as tie
+use Rattle.settings.proofs.Settings.duration.Statement.{statement}
+use Rattle.settings.proofs.Settings.duration.Tie as tie
 
 returns : tie.Need-returns
 returns c = rw (c .place .ensures .0)
