@@ -11,9 +11,11 @@ use Rattle.sheet.specs.declared.device.Device.{Device}
 use Rattle.settings.specs.declared.Settings.{Settings}
 use Rattle.sheet.specs.declared.judge.Facts.{Facts}
 use Rattle.sheet.specs.declared.judge.Judged.{Judged}
+use Rattle.sheet.specs.declared.judge.Outcome.{Outcome}
 use Rattle.sheet.specs.Device.{passed}
 use Rattle.sheet.specs.Judging.{judged}
 use Rattle.lent.specs.declared.refusal.Lengths.{Lengths}
+use Rattle.lent.specs.declared.refusal.Refusal.{Refusal}
 use Rattle.lent.specs.Refusal.{numberOf, refusalOf}
 use Rattle.part.specs.declared.frame.Signals.{Signals}
 use Rattle.part.specs.declared.frame.Answer.{Answer}
@@ -117,3 +119,6 @@ resultOf a m =
       device = a .device;
       lent = m;
     }
+
+abbrev pub refusing : Refusal → Device → Answer
+refusing refusal d = record { refusal = refusal; outcome = Outcome.Nothing; first = 0; driven = 0; device = d }

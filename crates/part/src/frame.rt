@@ -42,6 +42,19 @@ fn facts_of(input: &[u8], signals: Signals) -> Facts
     }
 }
 
+// The answer of a refused call.
+fn refused(refusal: Refusal, device: Device) -> Answer
+    ensures { λ r. ⌜ r ≡ spec.refusing refusal device ⌝ }
+{
+    Answer {
+        refusal,
+        outcome: Outcome::Nothing,
+        first: 0,
+        driven: 0,
+        device,
+    }
+}
+
 // An accepted call: time passes, the frame is judged, the output shows what the part drives, and what is to be done is done.
 fn served(
     device: Device,
@@ -52,8 +65,14 @@ fn served(
     signals: Signals,
     output: &mut [u8],
 ) -> Answer
-    requires { ⌜ spec.numberFor (spec.call device settings (now input) signals) (spec.lent (now array) (now register) (now output)) ≡ 0 ⌝ }
-    ensures { λ r. ⌜ spec.resultOf r (spec.lent (now (array .exit)) (now (register .exit)) (now (output .exit))) ≡ spec.answered (spec.call device settings (now (input .entry)) signals) (spec.lent (now (array .entry)) (now (register .entry)) (now (output .entry))) ⌝ }
+    requires { ⌜
+        spec.numberFor (spec.call device settings (now input) signals) (spec.lent (now array) (now register) (now output)) ≡ 0
+        ⌝ }
+    ensures { λ r. ⌜
+        spec.resultOf r (spec.lent (now (array .exit)) (now (register .exit)) (now (output .exit))) ≡
+        spec.answered (spec.call device settings (now (input .entry)) signals)
+        (spec.lent (now (array .entry)) (now (register .entry)) (now (output .entry)))
+        ⌝ }
 {
     let timed = device.passed(signals.elapsed);
     let judged = judge(timed, settings, facts_of(input, signals));
@@ -90,7 +109,11 @@ pub fn frame(
     signals: Signals,
     output: &mut [u8],
 ) -> Answer
-    ensures { λ r. ⌜ spec.resultOf r (spec.lent (now (array .exit)) (now (register .exit)) (now (output .exit))) ≡ spec.frame (spec.call device settings (now (input .entry)) signals) (spec.lent (now (array .entry)) (now (register .entry)) (now (output .entry))) ⌝ }
+    ensures { λ r. ⌜
+        spec.resultOf r (spec.lent (now (array .exit)) (now (register .exit)) (now (output .exit))) ≡
+        spec.frame (spec.call device settings (now (input .entry)) signals)
+        (spec.lent (now (array .entry)) (now (register .entry)) (now (output .entry)))
+        ⌝ }
 {
     let lengths = Lengths {
         array: array.len(),
@@ -102,11 +125,5 @@ pub fn frame(
     if refusal.is_accepted() {
         return served(device, settings, array, register, input, signals, output);
     }
-    Answer {
-        refusal,
-        outcome: Outcome::Nothing,
-        first: 0,
-        driven: 0,
-        device,
-    }
+    refused(refusal, device)
 }

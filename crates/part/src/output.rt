@@ -29,7 +29,10 @@ fn send(
     output: &mut [u8],
 )
     requires { ⌜ (0 < length (now array)) × (0 < length (now register)) × (first ≤ end) × (end ≤ length (now output)) ⌝ }
-    ensures { λ _. ⌜ now (output .exit) ≡ each (sent source device wp (store (now (array .entry))) (store (now (register .entry))) (now (input .entry)) first end) (now (output .entry)) ⌝ }
+    ensures { λ _. ⌜
+        now (output .exit) ≡
+        each (sent source device wp (store (now (array .entry))) (store (now (register .entry))) (now (input .entry)) first end) (now (output .entry))
+        ⌝ }
 {
     match source {
         Source::Array => copy_out(output, first, end, array, address_of(input) % array.len()),
@@ -66,7 +69,10 @@ fn drive(
     output: &mut [u8],
 )
     requires { ⌜ (0 < length (now array)) × (0 < length (now register)) × (judged .first + judged .driven ≤ length (now output)) ⌝ }
-    ensures { λ _. ⌜ now (output .exit) ≡ each (driven (judged .action) judged device wp (store (now (array .entry))) (store (now (register .entry))) (now (input .entry))) (now (output .entry)) ⌝ }
+    ensures { λ _. ⌜
+        now (output .exit) ≡
+        each (driven (judged .action) judged device wp (store (now (array .entry))) (store (now (register .entry))) (now (input .entry))) (now (output .entry))
+        ⌝ }
 {
     let first = judged.first;
     let end = first + judged.driven;
@@ -114,8 +120,16 @@ pub(crate) fn show(
     output: &mut [u8],
 )
     requires { ⌜ (0 < length (now array)) × (0 < length (now register)) ⌝ }
-    requires { ⌜ (judged .first + judged .driven ≤ length (now input)) × (length (now input) ≤ length (now output)) × ((bits + 7) / 8 ≡ length (now input)) ⌝ }
-    ensures { λ _. ⌜ now (output .exit) ≡ each (stored (range 0 (length (now (input .entry)))) (readAt judged device wp bits (store (now (array .entry))) (store (now (register .entry))) (now (input .entry)))) (now (output .entry)) ⌝ }
+    requires { ⌜
+        (judged .first + judged .driven ≤ length (now input)) × (length (now input) ≤ length (now output)) × ((bits + 7) / 8 ≡ length (now input))
+        ⌝ }
+    ensures { λ _. ⌜
+        now (output .exit) ≡
+        each
+        (stored (range 0 (length (now (input .entry))))
+        (readAt judged device wp bits (store (now (array .entry))) (store (now (register .entry))) (now (input .entry))))
+        (now (output .entry))
+        ⌝ }
 {
     let bytes = input.len();
     fill(output, 0, bytes, 255);

@@ -1,3 +1,4 @@
+-- `session::digit` meets its contract. Assumes nothing.
 use borrow.Author.Tests.{lt-ltb, le-ltb}
 use borrow.Author.Needs.{needs}
 use Rattle.session.proofs.digit.Statement.{statement}

@@ -1,3 +1,4 @@
+-- `session::turn` meets its contract: frame's own contract gives record and memories. Assumes nothing.
 use mathlib.Core.Path.{ap}
 use native.Mathlib.Omega.{arith}
 use lib.ListN.{length, length-take}

@@ -1,8 +1,9 @@
+-- `lent::look::look` meets its contract: a memory of the right length is not empty. Assumes nothing.
 use mathlib.Core.Path.{_≡_, sym, _∙_}
 use native.Mathlib.Omega.{arith}
+use borrow.Author.Needs.{needs}
 use lib.ListN.{length}
 use Rattle.lent.proofs.Lengths.{array-long, register-long}
-use borrow.Author.Needs.{needs}
 use Rattle.lent.proofs.look.look.Statement.{statement}
 use Rattle.lent.proofs.look.look.Tie as tie
 
@@ -10,7 +11,9 @@ part-requires : tie.Need-part-requires
 part-requires c κs e = array-long _ (sym (c .is-array .ensures) ∙ e) .0
 
 part-requires-2 : tie.Need-part-requires-2
-part-requires-2 c κs e = let l : length (c .before .before .before .before .before .args .register .now) ≡ 128 = register-long _ (sym (c .is-register .ensures) ∙ e) in omega arith
+part-requires-2 c κs e =
+    let l : length (c .before .before .before .before .before .args .register .now) ≡ 128 = register-long _ (sym (c .is-register .ensures) ∙ e) in
+    omega arith
 
 returns : tie.Need-returns
 returns c = rw (c .before .before .enum-told .given .1, c .part .ensures, c .before .is-array .ensures)

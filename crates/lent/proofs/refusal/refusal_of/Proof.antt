@@ -1,9 +1,40 @@
-use mathlib.Core.Path.{sym, _∙_}
-use borrow.Author.Tests.{lt-ltb, le-ltb, eq-eqb, ne-eqb}
-use Rattle.lent.specs.Refusal.{refusalOf}
+-- `lent::refusal::refusal_of` meets its contract: each test that is passed leaves the refusals behind it. Assumes nothing.
+use Prim.Native.Nat.{ℕ}
+use mathlib.Core.Bool.{cond, not}
+use mathlib.Core.Path.{_≡_, sym, _∙_}
 use borrow.Author.Needs.{needs}
+use borrow.Author.Tests.{lt-ltb, le-ltb, eq-eqb, ne-eqb}
+use lib.Dec.{ltb, eqb}
+use Rattle.settings.specs.Settings.{anyUnfair}
+use Rattle.sheet.specs.Device.{unsound}
+use Rattle.lent.specs.Refusal.{bytesFor, refusalOf}
 use Rattle.lent.proofs.refusal.refusal_of.Statement.{statement}
 use Rattle.lent.proofs.refusal.refusal_of.Tie as tie
+
+-- the number, and what is left of its definition from 6 on and from 3 on
+abbrev number : tie.Start → ℕ
+number a = refusalOf (a .args .device) (a .args .settings) (a .args .bits) (a .args .lengths)
+
+abbrev from-six : tie.Start → ℕ
+from-six a = cond (unsound (a .args .device)) 6 (cond (anyUnfair (a .args .settings .ticks)) 7 0)
+
+abbrev from-three : tie.Start → ℕ
+from-three a =
+    cond (ltb 8192 (a .args .lengths .input)) 3
+    (cond (not (eqb (bytesFor (a .args .bits)) (a .args .lengths .input))) 4
+    (cond (ltb (a .args .lengths .output) (a .args .lengths .input)) 5
+    (from-six a)))
+
+-- array and register have the right lengths
+to-three : (c : tie.Else2) → number (c .before .before .before .before) ≡ from-three (c .before .before .before .before)
+unfolding refusalOf
+to-three c = rw (rw (c .before .before .before .is-array .ensures) at (c .before .before .if1 .left), rw (c .before .is-register .ensures) at (c .if2 .left))
+
+-- and input and output have
+to-six : (c : tie.Else5) → number (c .before .before .before .before .before .before .before .before .before .before) ≡ from-six (c .before .before .before .before .before .before .before .before .before .before)
+to-six c =
+    to-three (c .before .before .before .before .before .before) ∙
+    rw (le-ltb _ _ (c .before .before .before .before .if3 .left), eq-eqb _ _ (rw (c .before .before .before .bytes-for .ensures) at (c .before .before .if4 .left)), le-ltb _ _ (c .if5 .left))
 
 returns : tie.Need-returns
 unfolding refusalOf
@@ -14,28 +45,23 @@ unfolding refusalOf
 returns-2 c = rw (rw (c .before .before .before .is-array .ensures) at (c .before .before .if1 .left), rw (c .before .is-register .ensures) at (c .if2 .taken))
 
 returns-3 : tie.Need-returns-3
-unfolding refusalOf
-returns-3 c = rw (rw (c .before .before .before .before .before .is-array .ensures) at (c .before .before .before .before .if1 .left), rw (c .before .before .before .is-register .ensures) at (c .before .before .if2 .left), lt-ltb _ _ (c .if3 .taken))
+returns-3 c = rw (to-three (c .before .before), lt-ltb _ _ (c .if3 .taken))
 
 returns-4 : tie.Need-returns-4
-unfolding refusalOf
-returns-4 c = rw (rw (c .before .before .before .before .before .before .before .is-array .ensures) at (c .before .before .before .before .before .before .if1 .left), rw (c .before .before .before .before .before .is-register .ensures) at (c .before .before .before .before .if2 .left), le-ltb _ _ (c .before .before .if3 .left), ne-eqb _ _ (rw (c .before .bytes-for .ensures) at (c .if4 .taken)))
+returns-4 c = rw (to-three (c .before .before .before .before), le-ltb _ _ (c .before .before .if3 .left), ne-eqb _ _ (rw (c .before .bytes-for .ensures) at (c .if4 .taken)))
 
 returns-5 : tie.Need-returns-5
-unfolding refusalOf
-returns-5 c = rw (rw (c .before .before .before .before .before .before .before .before .before .is-array .ensures) at (c .before .before .before .before .before .before .before .before .if1 .left), rw (c .before .before .before .before .before .before .before .is-register .ensures) at (c .before .before .before .before .before .before .if2 .left), le-ltb _ _ (c .before .before .before .before .if3 .left), eq-eqb _ _ (rw (c .before .before .before .bytes-for .ensures) at (c .before .before .if4 .left)), lt-ltb _ _ (c .if5 .taken))
+returns-5 c =
+    rw (to-three (c .before .before .before .before .before .before), le-ltb _ _ (c .before .before .before .before .if3 .left), eq-eqb _ _ (rw (c .before .before .before .bytes-for .ensures) at (c .before .before .if4 .left)), lt-ltb _ _ (c .if5 .taken))
 
 returns-6 : tie.Need-returns-6
-unfolding refusalOf
-returns-6 c = rw (rw (c .before .before .before .before .before .before .before .before .before .before .before .is-array .ensures) at (c .before .before .before .before .before .before .before .before .before .before .if1 .left), rw (c .before .before .before .before .before .before .before .before .before .is-register .ensures) at (c .before .before .before .before .before .before .before .before .if2 .left), le-ltb _ _ (c .before .before .before .before .before .before .if3 .left), eq-eqb _ _ (rw (c .before .before .before .before .before .bytes-for .ensures) at (c .before .before .before .before .if4 .left)), le-ltb _ _ (c .before .before .if5 .left), sym (c .before .is-unsound .ensures) ∙ c .if6 .taken)
+returns-6 c = rw (to-six (c .before .before), sym (c .before .is-unsound .ensures) ∙ c .if6 .taken)
 
 returns-7 : tie.Need-returns-7
-unfolding refusalOf
-returns-7 c = rw (rw (c .before .before .before .before .before .before .before .before .before .before .before .before .before .is-array .ensures) at (c .before .before .before .before .before .before .before .before .before .before .before .before .if1 .left), rw (c .before .before .before .before .before .before .before .before .before .before .before .is-register .ensures) at (c .before .before .before .before .before .before .before .before .before .before .if2 .left), le-ltb _ _ (c .before .before .before .before .before .before .before .before .if3 .left), eq-eqb _ _ (rw (c .before .before .before .before .before .before .before .bytes-for .ensures) at (c .before .before .before .before .before .before .if4 .left)), le-ltb _ _ (c .before .before .before .before .if5 .left), sym (c .before .before .before .is-unsound .ensures) ∙ c .before .before .if6 .left, sym (c .before .is-unfair .ensures) ∙ c .if7 .taken)
+returns-7 c = rw (to-six (c .before .before .before .before), sym (c .before .before .before .is-unsound .ensures) ∙ c .before .before .if6 .left, sym (c .before .is-unfair .ensures) ∙ c .if7 .taken)
 
 returns-8 : tie.Need-returns-8
-unfolding refusalOf
-returns-8 c = rw (rw (c .before .before .before .before .before .before .before .before .before .before .before .before .before .is-array .ensures) at (c .before .before .before .before .before .before .before .before .before .before .before .before .if1 .left), rw (c .before .before .before .before .before .before .before .before .before .before .before .is-register .ensures) at (c .before .before .before .before .before .before .before .before .before .before .if2 .left), le-ltb _ _ (c .before .before .before .before .before .before .before .before .if3 .left), eq-eqb _ _ (rw (c .before .before .before .before .before .before .before .bytes-for .ensures) at (c .before .before .before .before .before .before .if4 .left)), le-ltb _ _ (c .before .before .before .before .if5 .left), sym (c .before .before .before .is-unsound .ensures) ∙ c .before .before .if6 .left, sym (c .before .is-unfair .ensures) ∙ c .if7 .left)
+returns-8 c = rw (to-six (c .before .before .before .before), sym (c .before .before .before .is-unsound .ensures) ∙ c .before .before .if6 .left, sym (c .before .is-unfair .ensures) ∙ c .if7 .left)
 
 pub refusal-of-spec : {M : Type 1} → statement M
 refusal-of-spec =

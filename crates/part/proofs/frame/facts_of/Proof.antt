@@ -1,3 +1,4 @@
+-- `part::frame::facts_of` meets its contract. Assumes nothing.
 use borrow.Author.Needs.{needs}
 use Rattle.part.proofs.frame.facts_of.Statement.{statement}
 use Rattle.part.proofs.frame.facts_of.Tie as tie

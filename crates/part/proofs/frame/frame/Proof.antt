@@ -1,18 +1,25 @@
+-- `part::frame::frame` meets its contract: a call whose number is 0 is served, any other leaves all as it was. Assumes nothing.
 use mathlib.Core.Path.{_≡_, sym, _∙_}
+use borrow.Author.Needs.{needs}
 use borrow.Author.Tests.{eqb-true}
 use lib.Dec.{eqb}
 use Rattle.lent.specs.Refusal.{numberOf}
-use Rattle.part.specs.Frame.{call, lent, numberFor, frame}
-use borrow.Author.Needs.{needs}
+use Rattle.part.specs.Frame.{Call, Lent, call, lent, numberFor, frame}
 use Rattle.part.proofs.frame.frame.Statement.{statement}
 use Rattle.part.proofs.frame.frame.Tie as tie
 
+abbrev callAt : tie.Start → Call
+callAt a = call (a .args .device) (a .args .settings) (a .args .input .now) (a .args .signals)
+
+abbrev lentAt : tie.Start → Lent
+lentAt a = lent (a .args .array .now) (a .args .register .now) (a .args .output .now)
+
 -- the refusal's number, and the test of it
-number : (c : tie.After-is-accepted) → numberOf (c .before .refusal-of .result) ≡ numberFor (call (c .before .before .before .before .before .before .args .device) (c .before .before .before .before .before .before .args .settings) (c .before .before .before .before .before .before .args .input .now) (c .before .before .before .before .before .before .args .signals)) (lent (c .before .before .before .before .before .before .args .array .now) (c .before .before .before .before .before .before .args .register .now) (c .before .before .before .before .before .before .args .output .now))
+number : (c : tie.After-is-accepted) → numberOf (c .before .refusal-of .result) ≡ numberFor (callAt (c .before .before .before .before .before .before)) (lentAt (c .before .before .before .before .before .before))
 unfolding numberFor
 number c = c .before .refusal-of .ensures
 
-tested : (c : tie.After-is-accepted) → c .is-accepted .result ≡ eqb (numberFor (call (c .before .before .before .before .before .before .args .device) (c .before .before .before .before .before .before .args .settings) (c .before .before .before .before .before .before .args .input .now) (c .before .before .before .before .before .before .args .signals)) (lent (c .before .before .before .before .before .before .args .array .now) (c .before .before .before .before .before .before .args .register .now) (c .before .before .before .before .before .before .args .output .now))) 0
+tested : (c : tie.After-is-accepted) → c .is-accepted .result ≡ eqb (numberFor (callAt (c .before .before .before .before .before .before)) (lentAt (c .before .before .before .before .before .before))) 0
 tested c = rw (← number c) (c .is-accepted .ensures)
 
 served-requires : tie.Need-served-requires
@@ -20,11 +27,13 @@ served-requires c κs = eqb-true _ _ (sym (tested (c .before .before .before .be
 
 returns : tie.Need-returns
 unfolding frame
-returns c = rw (sym (tested (c .before .before .before .before .before .before .before .before .before .before .before)) ∙ c .before .before .before .before .before .before .before .before .before .before .if1 .taken) (c .before .before .before .before .before .before .served .ensures)
+returns c =
+    let taken = c .before .before .before .before .before .before .before .before .before .before in
+    rw (sym (tested (taken .before)) ∙ taken .if1 .taken) (c .before .before .before .before .before .before .served .ensures)
 
 returns-2 : tie.Need-returns-2
 unfolding frame
-returns-2 c = rw (sym (tested (c .before)) ∙ c .if1 .left, ← number (c .before))
+returns-2 c = rw (sym (tested (c .before .before)) ∙ c .before .if1 .left, c .refused .ensures, ← number (c .before .before))
 
 pub frame-spec : {M : Type 1} → statement M
 frame-spec =
@@ -37,4 +46,5 @@ frame-spec =
     (λ c. search needs)
     (λ c. search needs)
     returns
+    (λ c κs. search needs)
     returns-2)

@@ -1,42 +1,55 @@
+-- `part::frame::served` meets its contract: the lengths of an accepted call are what the steps need, and the steps together make the
+-- answer. Assumes nothing.
 use Prim.Native.Nat.{_+_, _≤_}
 use mathlib.Core.Path.{_≡_}
 use native.Mathlib.Omega.{arith}
+use borrow.Author.Needs.{needs}
 use lib.ListN.{length}
 use Rattle.sheet.proofs.Leaves.{within}
 use Rattle.lent.proofs.Lengths.{Accepted, accepted, array-long}
-use Rattle.part.specs.Frame.{call, lent, lengthsOf, numberFor, factsFor, judgedOf}
+use Rattle.part.specs.Frame.{Call, Lent, call, lent, lengthsOf, numberFor, factsFor, judgedOf}
 use Rattle.part.proofs.Frames.{together}
-use borrow.Author.Needs.{needs}
 use Rattle.part.proofs.frame.served.Statement.{statement}
 use Rattle.part.proofs.frame.served.Tie as tie
 
+abbrev callAt : tie.Start → Call
+callAt a = call (a .args .device) (a .args .settings) (a .args .input .now) (a .args .signals)
+
+abbrev lentAt : tie.Start → Lent
+lentAt a = lent (a .args .array .now) (a .args .register .now) (a .args .output .now)
+
 -- the call is one that is not refused
-ok : (c : tie.After-judge)
-    → Accepted (c .before .before .before .before .before .before .before .args .device) (c .before .before .before .before .before .before .before .args .settings) (c .before .before .before .before .before .before .before .args .signals .bits)
-    (lengthsOf (call (c .before .before .before .before .before .before .before .args .device) (c .before .before .before .before .before .before .before .args .settings) (c .before .before .before .before .before .before .before .args .input .now) (c .before .before .before .before .before .before .before .args .signals)) (lent (c .before .before .before .before .before .before .before .args .array .now) (c .before .before .before .before .before .before .before .args .register .now) (c .before .before .before .before .before .before .before .args .output .now)))
+ok : (a : tie.Start) → Accepted (a .args .device) (a .args .settings) (a .args .signals .bits) (lengthsOf (callAt a) (lentAt a))
 unfolding numberFor
-ok c = accepted _ _ _ _ (c .before .before .before .before .before .before .before .pre)
+ok a = accepted _ _ _ _ (a .pre)
 
 -- what is driven lies in the frame
 inside : (c : tie.After-judge) → c .judge .result .first + c .judge .result .driven ≤ length (c .before .before .before .before .before .before .before .args .input .now)
-inside c = rw (c .judge .ensures, c .before .facts-of .ensures) (within (c .before .before .passed .result) (c .before .before .before .before .before .before .before .args .settings) (factsFor (c .before .before .before .before .before .before .before .args .input .now) (c .before .before .before .before .before .before .before .args .signals)))
+inside c =
+    let a = c .before .before .before .before .before .before .before .args in
+    rw (c .judge .ensures, c .before .facts-of .ensures) (within (c .before .before .passed .result) (a .settings) (factsFor (a .input .now) (a .signals)))
 
 show-requires : tie.Need-show-requires
 show-requires c κs =
-    let o = ok (c .before .before .before) in
+    let o = ok (c .before .before .before .before .before .before .before .before .before .before) in
     let l : length (c .before .before .before .before .before .before .before .before .before .before .args .register .now) ≡ 128 = o .register in
     ((array-long _ (o .array) .0, omega arith), (inside (c .before .before .before), o .room, o .fits))
 
 carry-out-requires : tie.Need-carry-out-requires
-carry-out-requires c κs = let o = ok (c .before .before .before .before .before .before .before .before) in (array-long _ (o .array) .0, array-long _ (o .array) .1, o .register)
+carry-out-requires c κs =
+    let o = ok (c .before .before .before .before .before .before .before .before .before .before .before .before .before .before .before) in
+    (array-long _ (o .array) .0, array-long _ (o .array) .1, o .register)
 
 returns : tie.Need-returns
 unfolding judgedOf
 returns c =
-    together (call (c .before .before .before .before .before .before .before .before .before .before .before .before .before .before .before .before .before .before .before .before .before .args .device) (c .before .before .before .before .before .before .before .before .before .before .before .before .before .before .before .before .before .before .before .before .before .args .settings) (c .before .before .before .before .before .before .before .before .before .before .before .before .before .before .before .before .before .before .before .before .before .args .input .now) (c .before .before .before .before .before .before .before .before .before .before .before .before .before .before .before .before .before .before .before .before .before .args .signals)) (lent (c .before .before .before .before .before .before .before .before .before .before .before .before .before .before .before .before .before .before .before .before .before .args .array .now) (c .before .before .before .before .before .before .before .before .before .before .before .before .before .before .before .before .before .before .before .before .before .args .register .now) (c .before .before .before .before .before .before .before .before .before .before .before .before .before .before .before .before .before .before .before .before .before .args .output .now)) _ _ _ _ _
-    (c .before .before .before .before .before .before .before .before .before .before .before .before .before .before .before .before .passed .ensures)
-    (rw (c .before .before .before .before .before .before .before .before .before .before .before .before .before .before .judge .ensures, c .before .before .before .before .before .before .before .before .before .before .before .before .before .before .before .facts-of .ensures, c .before .before .before .before .before .before .before .before .before .before .before .before .before .before .before .before .passed .ensures))
-    (c .before .before .before .before .before .carry-out .ensures .0) (c .before .before .before .before .before .carry-out .ensures .1) (c .before .before .before .before .before .before .before .before .before .before .show .ensures)
+    let carried = c .before .before .before .before .before in
+    let shown = c .before .before .before .before .before .before .before .before .before .before in
+    let judged = c .before .before .before .before .before .before .before .before .before .before .before .before .before .before in
+    let timed = judged .before .before .passed .ensures in
+    let a = judged .before .before .before .before .before .before .before in
+    together (callAt a) (lentAt a) _ _ _ _ _ timed (rw (judged .judge .ensures, judged .before .facts-of .ensures, timed)) (carried .carry-out .ensures .0)
+    (carried .carry-out .ensures .1) (shown .show .ensures)
 
 pub served-spec : {M : Type 1} → statement M
 served-spec =

@@ -1,13 +1,18 @@
-use Rattle.cells.proofs.Places.{each-same}
+-- `part::memory::carry_out` meets its contract: each action changes one memory at most. Assumes nothing.
 use borrow.Author.Needs.{needs}
+use Rattle.cells.proofs.Places.{each-same}
 use Rattle.part.proofs.memory.carry_out.Statement.{statement}
 use Rattle.part.proofs.memory.carry_out.Tie as tie
 
 returns : tie.Need-returns
-returns c = rw (c .enum-told .given .1) (each-same (c .before .before .before .before .before .args .array .now), each-same (c .before .before .before .before .before .args .register .now))
+returns c =
+    let a = c .before .before .before .before .before .args in
+    rw (c .enum-told .given .1) (each-same (a .array .now), each-same (a .register .now))
 
 returns-2 : tie.Need-returns-2
-returns-2 c = rw (c .enum-told2 .given .1) (each-same (c .before .before .before .before .before .args .array .now), each-same (c .before .before .before .before .before .args .register .now))
+returns-2 c =
+    let a = c .before .before .before .before .before .args in
+    rw (c .enum-told2 .given .1) (each-same (a .array .now), each-same (a .register .now))
 
 returns-3 : tie.Need-returns-3
 returns-3 c = rw (c .before .before .before .before .enum-told3 .given .1) (c .before .before .program .ensures, each-same (c .before .before .before .before .before .before .before .before .before .args .register .now))

@@ -1,22 +1,22 @@
-use Prim.Native.Nat.{ℕ, _+_, _*_, _/_, _%_, _<_, _≤_}
+-- `part::memory::erase` meets its contract: the block around the reduced address lies in the array. Assumes nothing.
+use Prim.Native.Nat.{_+_, _*_, _/_, _%_, _<_, _≤_}
 use native.Mathlib.Nat.{mod-lt}
 use native.Mathlib.Omega.{arith}
+use borrow.Author.Needs.{needs}
 use lib.ListN.{length}
 use Rattle.part.proofs.Blocks.{block-inside}
-use borrow.Author.Needs.{needs}
 use Rattle.part.proofs.memory.erase.Statement.{statement}
 use Rattle.part.proofs.memory.erase.Tie as tie
 
--- the address, reduced, is a place of the array, and the block around it lies in the array
 inside : (c : tie.After-width-of)
     → (0 < c .width-of .result)
     × (c .before .address-of .result % length (c .before .before .before .before .args .array .now) / c .width-of .result * c .width-of .result + c .width-of .result
     ≤ length (c .before .before .before .before .args .array .now))
 inside c =
-    let size : ℕ = length (c .before .before .before .before .args .array .now) in
+    let start = c .before .before .before .before in
+    let size = length (start .args .array .now) in
     rw (c .width-of .ensures)
-    (block-inside (c .before .before .before .before .args .region) size (c .before .address-of .result % size) (c .before .before .before .before .pre .0) (c .before .before .before .before .pre .1)
-    (mod-lt (c .before .address-of .result) (c .before .before .before .before .pre .0)))
+    (block-inside (start .args .region) size (c .before .address-of .result % size) (start .pre .0) (start .pre .1) (mod-lt _ (start .pre .0)))
 
 div-from : tie.Need-div-from
 div-from c = inside c .0

@@ -1,3 +1,4 @@
+-- `part::memory::program_once` meets its contract. Assumes nothing.
 use borrow.Author.Needs.{needs}
 use Rattle.part.proofs.memory.program_once.Statement.{statement}
 use Rattle.part.proofs.memory.program_once.Tie as tie

@@ -1,10 +1,13 @@
-use Rattle.part.proofs.Lines.{clip-none, clip-last}
+-- `part::output::clip` meets its contract: only a last byte that was clocked in part changes. Assumes nothing.
 use borrow.Author.Needs.{needs}
+use Rattle.part.proofs.Lines.{clip-none, clip-last}
 use Rattle.part.proofs.output.clip.Statement.{statement}
 use Rattle.part.proofs.output.clip.Tie as tie
 
 returns : tie.Need-returns
-returns c = clip-last (c .before .before .args .bytes) (c .before .before .args .bits) (c .before .before .args .output .now) (c .before .before .pre .1) (c .before .before .pre .0) (c .before .if1 .taken)
+returns c =
+    let start = c .before .before in
+    clip-last (start .args .bytes) (start .args .bits) (start .args .output .now) (start .pre .1) (start .pre .0) (c .before .if1 .taken)
 
 returns-2 : tie.Need-returns-2
 returns-2 c = clip-none (c .before .args .bytes) (c .before .args .bits) (c .before .args .output .now) (c .before .pre .1) (c .if1 .left)

@@ -1,5 +1,6 @@
-use Rattle.cells.proofs.Places.{each-same}
+-- `part::output::drive` meets its contract: a read sends, and nothing else changes the output. Assumes nothing.
 use borrow.Author.Needs.{needs}
+use Rattle.cells.proofs.Places.{each-same}
 use Rattle.part.proofs.output.drive.Statement.{statement}
 use Rattle.part.proofs.output.drive.Tie as tie
 

@@ -1,7 +1,9 @@
-use Rattle.part.specs.Operations.{addressOf}
+-- `part::output::send` meets its contract: each source is a memory that is copied out, from an address or from its first byte.
+-- Assumes nothing.
 use native.Mathlib.Nat.{mod-lt}
-use Rattle.part.proofs.Lines.{from-address}
 use borrow.Author.Needs.{needs}
+use Rattle.part.specs.Operations.{addressOf}
+use Rattle.part.proofs.Lines.{from-address}
 use Rattle.part.proofs.output.send.Statement.{statement}
 use Rattle.part.proofs.output.send.Tie as tie
 
@@ -12,12 +14,16 @@ copy-out-requires-2 : tie.Need-copy-out-requires-2
 copy-out-requires-2 c κs = (search needs, search needs, mod-lt _ (c .before .before .before .before .before .before .before .before .pre .1))
 
 returns : tie.Need-returns
-returns c = rw (c .before .before .before .before .before .enum-told .given .1, c .before .before .copy-out .ensures, c .before .before .before .address-of .ensures)
-    (from-address (c .before .before .before .before .before .before .before .before .before .before .before .args .array .now) (addressOf (c .before .before .before .before .before .before .before .before .before .before .before .args .input .now)) (c .before .before .before .before .before .before .before .before .before .before .before .args .first) (c .before .before .before .before .before .before .before .before .before .before .before .args .end) (c .before .before .before .before .before .before .before .before .before .before .before .args .output .now))
+returns c =
+    let a = c .before .before .before .before .before .before .before .before .before .before .before .args in
+    rw (c .before .before .before .before .before .enum-told .given .1, c .before .before .copy-out .ensures, c .before .before .before .address-of .ensures)
+    (from-address (a .array .now) (addressOf (a .input .now)) (a .first) (a .end) (a .output .now))
 
 returns-2 : tie.Need-returns-2
-returns-2 c = rw (c .before .before .before .before .before .enum-told2 .given .1, c .before .before .copy-out2 .ensures, c .before .before .before .address-of2 .ensures)
-    (from-address (c .before .before .before .before .before .before .before .before .before .before .before .args .register .now) (addressOf (c .before .before .before .before .before .before .before .before .before .before .before .args .input .now)) (c .before .before .before .before .before .before .before .before .before .before .before .args .first) (c .before .before .before .before .before .before .before .before .before .before .before .args .end) (c .before .before .before .before .before .before .before .before .before .before .before .args .output .now))
+returns-2 c =
+    let a = c .before .before .before .before .before .before .before .before .before .before .before .args in
+    rw (c .before .before .before .before .before .enum-told2 .given .1, c .before .before .copy-out2 .ensures, c .before .before .before .address-of2 .ensures)
+    (from-address (a .register .now) (addressOf (a .input .now)) (a .first) (a .end) (a .output .now))
 
 returns-3 : tie.Need-returns-3
 returns-3 c = rw (c .before .before .before .before .before .before .before .enum-told3 .given .1, c .before .before .copy-out3 .ensures, c .before .before .before .before .before .status-two .ensures, c .before .before .before .before .before .before .status-one .ensures)

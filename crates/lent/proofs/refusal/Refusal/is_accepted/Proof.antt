@@ -1,3 +1,4 @@
+-- `lent::refusal::Refusal::is_accepted` meets its contract, case by case. Assumes nothing.
 use borrow.Author.Needs.{needs}
 use Rattle.lent.proofs.refusal.Refusal.is_accepted.Statement.{statement}
 use Rattle.lent.proofs.refusal.Refusal.is_accepted.Tie as tie
