@@ -1,5 +1,5 @@
 -- What the right lengths give to those who work on the memories, and what is known of a call that is not refused. Assumes nothing.
-use Prim.Native.Nat.{ℕ, _%_, _<_, _≤_}
+use Prim.Native.Nat.{ℕ, suc, _%_, _<_, _≤_}
 use mathlib.Core.Bool.{Bool, true, false, cond, _||_}
 use mathlib.Core.Path.{_≡_, refl}
 use native.Mathlib.Omega.{arith}
@@ -23,10 +23,10 @@ array-long n e = by (eqb n 131072) (eqb-true n 131072) e
 pub register-long : (n : ℕ) → isRegister n ≡ true → n ≡ 128
 register-long n e = eqb-true n 128 e
 
--- a number that is not 0 was not given
-passed : (b : Bool) (n m : ℕ) → (n ≡ 0 → ⊥) → cond b n m ≡ 0 → (b ≡ false) × (m ≡ 0)
-passed true n m given e = absurd (given e)
-passed false n m given e = (refl, e)
+-- a refusal has a number above 0, so where the number is 0 it was not given
+passed : (b : Bool) (n m : ℕ) → cond b (suc n) m ≡ 0 → (b ≡ false) × (m ≡ 0)
+passed true n m e = absurd (omega arith)
+passed false n m e = (refl, e)
 
 -- what is known of an accepted call
 pub record Accepted (d : Device) (s : Settings) (bits : ℕ) (lengths : Lengths) : Type 0 where
@@ -41,13 +41,13 @@ pub record Accepted (d : Device) (s : Settings) (bits : ℕ) (lengths : Lengths)
 pub accepted : (d : Device) (s : Settings) (bits : ℕ) (lengths : Lengths) → refusalOf d s bits lengths ≡ 0 → Accepted d s bits lengths
 unfolding refusalOf
 accepted d s bits lengths e =
-    let one = passed _ 1 _ (λ (z : 1 ≡ 0). omega arith) e in
-    let two = passed _ 2 _ (λ (z : 2 ≡ 0). omega arith) (one .1) in
-    let three = passed _ 3 _ (λ (z : 3 ≡ 0). omega arith) (two .1) in
-    let four = passed _ 4 _ (λ (z : 4 ≡ 0). omega arith) (three .1) in
-    let five = passed _ 5 _ (λ (z : 5 ≡ 0). omega arith) (four .1) in
-    let six = passed _ 6 _ (λ (z : 6 ≡ 0). omega arith) (five .1) in
-    let seven = passed _ 7 0 (λ (z : 7 ≡ 0). omega arith) (six .1) in
+    let one = passed _ _ _ e in
+    let two = passed _ _ _ (one .1) in
+    let three = passed _ _ _ (two .1) in
+    let four = passed _ _ _ (three .1) in
+    let five = passed _ _ _ (four .1) in
+    let six = passed _ _ _ (five .1) in
+    let seven = passed _ _ _ (six .1) in
     record {
       array = not-false _ (one .0);
       register = register-long (lengths .register) (not-false _ (two .0));

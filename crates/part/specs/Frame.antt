@@ -55,11 +55,11 @@ pub record Result : Type 0 where
 abbrev pub lengthsOf : Call → Lent → Lengths
 lengthsOf c m = record { array = length (m .array); register = length (m .register); input = length (c .input); output = length (m .output) }
 
--- why it is refused; 0 if it is not
+-- the number of its refusal; 0 if there is none
 unfoldable pub numberFor : Call → Lent → ℕ
 numberFor c m = refusalOf (c .device) (c .settings) (c .signals .bits) (lengthsOf c m)
 
--- first the elapsed ticks come off the busy ticks
+-- time passes first
 abbrev pub timed : Call → Device
 timed c = passed (c .device) (c .signals .elapsed)
 
@@ -100,11 +100,11 @@ answered c m =
       lent = lent (arrayAfter c m) (registerAfter c m) (outputAfter c m);
     }
 
--- a refused one: the record as it came in, outcome nothing, positions 0 and 0, every lent byte as it was
+-- a refused one: its number, the record untouched, nothing driven, and every byte that was lent as it was
 abbrev pub refused : ℕ → Call → Lent → Result
 refused number c m = record { refusal = number; outcome = "nothing"; first = 0; driven = 0; device = c .device; lent = m }
 
--- ONE FRAME
+-- one frame
 unfoldable pub frame : Call → Lent → Result
 frame c m = cond (eqb (numberFor c m) 0) (answered c m) (refused (numberFor c m) c m)
 

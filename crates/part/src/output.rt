@@ -75,7 +75,7 @@ fn drive(
         ⌝ }
 {
     let first = judged.first;
-    let end = first + judged.driven;
+    let behind = first + judged.driven;
     let action = judged.action;
     match action {
         Action::Still => {}
@@ -87,7 +87,7 @@ fn drive(
             register,
             input,
             first,
-            end,
+            behind,
             output,
         ),
         Action::Program => {}

@@ -82,7 +82,7 @@ each-holds (r ∷ rs) e f =
     let w : (fitting r ≡ true) × (allFitting rs ≡ true) = and-eq-true-iff (fitting r) (allFitting rs) .0 f in
     (row-holds r (ap (λ (l : List (List Reply)). getD l 0 []) e) (w .0), each-holds rs (ap tail e) (w .1))
 
--- THE TABLE: P1 to P10, the session and the limits, each reply, record and byte as the row says
+-- the table: P1 to P10, the session and the limits, each reply, record and byte as the row says
 pub worked-table : EachWorked table
 unfolding table repliesOf wantedOf fitting allFitting agrees everywhere halved steadyOperations steadyPieces steadyFor one-side apart inside value painted repliesTold endTold replyTold next numberTold
     refusalOf anyUnfair judgedOf judged byOpcode rowOf rows lookup readAt each eachFrom over covered last

@@ -82,7 +82,7 @@ unfoldable pub painted : List Piece → Cell
 painted [] k x = x
 painted (p ∷ ps) k x = cond (range (p .from) (p .to) k) (p .value) (painted ps k x)
 
--- THE STATEMENT of a row: every reply is as it says, and so is every byte of the array and of the register
+-- the statement of a row: every reply is as it says, and so is every byte of the array and of the register
 pub record Worked (r : Row) : Type 0 where
   pub replies : map replyOf (results (stepsOf r) (startOf r)) ≡ map (λ (e : Exchange). e .came) (r .exchanges)
   pub array : end (stepsOf r) (startOf r) .array ≡ each (painted (r .array)) (blank (r .size) (r .holds))

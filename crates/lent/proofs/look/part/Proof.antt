@@ -22,7 +22,7 @@ rem-start : tie.Need-rem-start
 rem-start c = nonempty c
 
 sub-if2 : tie.Need-sub-if2
-sub-if2 c = inside c
+sub-if2 c = omega (arith, inside c)
 
 returns : tie.Need-returns
 returns c =

@@ -46,10 +46,11 @@ returns c =
     let carried = c .before .before .before .before .before in
     let shown = c .before .before .before .before .before .before .before .before .before .before in
     let judged = c .before .before .before .before .before .before .before .before .before .before .before .before .before .before in
-    let timed = judged .before .before .passed .ensures in
+    let time = judged .before .before in
     let a = judged .before .before .before .before .before .before .before in
-    together (callAt a) (lentAt a) _ _ _ _ _ timed (rw (judged .judge .ensures, judged .before .facts-of .ensures, timed)) (carried .carry-out .ensures .0)
-    (carried .carry-out .ensures .1) (shown .show .ensures)
+    together (callAt a) (lentAt a) (time .passed .result) (judged .judge .result) _ _ _ (time .passed .ensures)
+    (rw (judged .judge .ensures, judged .before .facts-of .ensures, time .passed .ensures)) (carried .carry-out .ensures .0) (carried .carry-out .ensures .1)
+    (shown .show .ensures)
 
 pub served-spec : {M : Type 1} → statement M
 served-spec =
