@@ -6,6 +6,10 @@ use lib.Dec.{eqb}
 use Rattle.lent.specs.declared.refusal.Refusal.{Refusal}
 use Rattle.lent.specs.Refusal.{numberOf}
 
+-- what has a way back tells its arguments apart
+pub tells : {A B : Type 0} (f : A → B) (g : B → A) → ((a : A) → g (f a) ≡ a) → (a b : A) → f a ≡ f b → a ≡ b
+tells f g back a b e = sym (back a) ∙ (ap g e ∙ back b)
+
 -- the refusal of a number
 refusalAt : ℕ → Refusal
 refusalAt n =
@@ -30,4 +34,4 @@ back Refusal.Record = refl
 back Refusal.Duration = refl
 
 pub number-tells : (a b : Refusal) → numberOf a ≡ numberOf b → a ≡ b
-number-tells a b e = sym (back a) ∙ (ap refusalAt e ∙ back b)
+number-tells = tells numberOf refusalAt back

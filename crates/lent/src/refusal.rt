@@ -2,7 +2,6 @@
 use settings::Settings;
 use sheet::device::Device;
 ghost use mathlib.Core.Path.{_≡_};
-ghost use lib.Dec.{eqb};
 ghost use Rattle.lent.specs.Refusal.{numberOf, isArray, isRegister, bytesFor, refusalOf};
 
 // Why a call is refused, or that it is not.
@@ -18,19 +17,19 @@ pub enum Refusal {
 }
 
 impl Refusal {
-    // Whether there is none.
-    pub fn is_accepted(self) -> bool
-        ensures { λ r. ⌜ r ≡ eqb (numberOf self) 0 ⌝ }
+    // Its number in the table; 0 if there is none.
+    pub fn number(self) -> u8
+        ensures { λ r. ⌜ r ≡ numberOf self ⌝ }
     {
         match self {
-            Refusal::Accepted => true,
-            Refusal::ArrayLength => false,
-            Refusal::RegisterLength => false,
-            Refusal::InputLength => false,
-            Refusal::BitCount => false,
-            Refusal::OutputLength => false,
-            Refusal::Record => false,
-            Refusal::Duration => false,
+            Refusal::Accepted => 0,
+            Refusal::ArrayLength => 1,
+            Refusal::RegisterLength => 2,
+            Refusal::InputLength => 3,
+            Refusal::BitCount => 4,
+            Refusal::OutputLength => 5,
+            Refusal::Record => 6,
+            Refusal::Duration => 7,
         }
     }
 }

@@ -7,7 +7,7 @@ use lib.Text.{eqt}
 use Rattle.sheet.specs.declared.device.Device.{Device}
 use Rattle.sheet.specs.declared.judge.Outcome.{Outcome}
 use Rattle.lent.specs.declared.refusal.Refusal.{Refusal}
-use Rattle.lent.proofs.Numbers.{number-tells}
+use Rattle.lent.proofs.Numbers.{tells, number-tells}
 use Rattle.part.specs.declared.frame.Answer.{Answer}
 use Rattle.part.specs.Words.{wordOf}
 use Rattle.part.specs.Frame.{Call, Lent, Result, frame, resultOf}
@@ -30,7 +30,7 @@ back Outcome.Aborted = refl
 back Outcome.Begun = refl
 
 pub word-tells : (a b : Outcome) → wordOf a ≡ wordOf b → a ≡ b
-word-tells a b e = sym (back a) ∙ (ap outcomeOf e ∙ back b)
+word-tells = tells wordOf outcomeOf back
 
 -- an answer made of its fields
 made : Refusal → Outcome → ℕ → ℕ → Device → Answer

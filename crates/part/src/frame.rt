@@ -122,7 +122,7 @@ pub fn frame(
         output: output.len(),
     };
     let refusal = refusal_of(device, settings, signals.bits, lengths);
-    if refusal.is_accepted() {
+    if refusal.number() == 0 {
         return served(device, settings, array, register, input, signals, output);
     }
     refused(refusal, device)

@@ -1,9 +1,7 @@
 -- `part::frame::frame` meets its contract: a call whose number is 0 is served, any other leaves all as it was. Assumes nothing.
 use mathlib.Core.Path.{_≡_, sym, _∙_}
 use borrow.Author.Needs.{needs}
-use borrow.Author.Tests.{eqb-true}
-use lib.Dec.{eqb}
-use Rattle.lent.specs.Refusal.{numberOf}
+use borrow.Author.Tests.{ne-eqb}
 use Rattle.part.specs.Frame.{Call, Lent, call, lent, numberFor, frame}
 use Rattle.part.proofs.frame.frame.Statement.{statement}
 use Rattle.part.proofs.frame.frame.Tie as tie
@@ -14,26 +12,25 @@ callAt a = call (a .args .device) (a .args .settings) (a .args .input .now) (a .
 abbrev lentAt : tie.Start → Lent
 lentAt a = lent (a .args .array .now) (a .args .register .now) (a .args .output .now)
 
--- the refusal's number, and the test of it
-number : (c : tie.After-is-accepted) → numberOf (c .before .refusal-of .result) ≡ numberFor (callAt (c .before .before .before .before .before .before)) (lentAt (c .before .before .before .before .before .before))
+-- the number that is tested is the call's
+number : (c : tie.After-number) → c .number .result ≡ numberFor (callAt (c .before .before .before .before .before .before)) (lentAt (c .before .before .before .before .before .before))
 unfolding numberFor
-number c = c .before .refusal-of .ensures
-
-tested : (c : tie.After-is-accepted) → c .is-accepted .result ≡ eqb (numberFor (callAt (c .before .before .before .before .before .before)) (lentAt (c .before .before .before .before .before .before))) 0
-tested c = rw (← number c) (c .is-accepted .ensures)
+number c = c .number .ensures ∙ c .before .refusal-of .ensures
 
 served-requires : tie.Need-served-requires
-served-requires c κs = eqb-true _ _ (sym (tested (c .before .before .before .before)) ∙ c .before .before .before .if1 .taken)
+served-requires c κs = sym (number (c .before .before .before .before)) ∙ c .before .before .before .if1 .taken
 
 returns : tie.Need-returns
 unfolding frame
 returns c =
     let taken = c .before .before .before .before .before .before .before .before .before .before in
-    rw (sym (tested (taken .before)) ∙ taken .if1 .taken) (c .before .before .before .before .before .before .served .ensures)
+    rw (← number (taken .before), taken .if1 .taken) (c .before .before .before .before .before .before .served .ensures)
 
 returns-2 : tie.Need-returns-2
 unfolding frame
-returns-2 c = rw (sym (tested (c .before .before)) ∙ c .before .if1 .left, c .refused .ensures, ← number (c .before .before))
+returns-2 c =
+    let tested = c .before .before in
+    rw (← number tested, ne-eqb _ _ (c .before .if1 .left), c .refused .ensures, tested .number .ensures)
 
 pub frame-spec : {M : Type 1} → statement M
 frame-spec =
