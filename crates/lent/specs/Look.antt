@@ -1,6 +1,6 @@
 -- A look at a lent memory without a frame: which part of that memory the caller gets back. Assumes nothing.
 use Prim.Native.Nat.{ℕ, _-_, _%_, min}
-use mathlib.Core.Bool.{Bool, cond}
+use mathlib.Core.Bool.{cond}
 use mathlib.Core.List.{List, []}
 use lib.ListN.{length, take, drop}
 use Rattle.lent.specs.declared.look.Memory.{Memory}

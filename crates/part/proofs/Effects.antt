@@ -1,6 +1,5 @@
 -- A frame takes effect on the array exactly when demand 2 says. Assumes nothing.
 use Prim.Native.Nat.{ℕ}
-use Prim.Native.String.{String}
 use mathlib.Core.Bool.{Bool, true, false, true≢false, false≢true, _&&_}
 use mathlib.Core.List.{List}
 use mathlib.Core.Logic.{_≢_}
@@ -15,7 +14,7 @@ use Rattle.sheet.proofs.Begins.{exactly-when}
 use Rattle.sheet.proofs.Leaves.{as-asked}
 use Rattle.part.specs.Words.{wordOf}
 use Rattle.part.specs.Operations.{cellOf, onArray}
-use Rattle.part.specs.Frame.{Call, Lent, numberFor, timed, factsOf, judgedOf, arrayAfter, frame}
+use Rattle.part.specs.Frame.{Call, Lent, numberFor, timed, factsOf, judgedOf, frame}
 use Rattle.part.specs.Effect.{takesEffect, operationOf}
 
 module _ (c : Call) (m : Lent) where

@@ -10,7 +10,7 @@ use Rattle.sheet.specs.declared.judge.Judged.{Judged}
 use Rattle.part.specs.Words.{wordOf}
 use Rattle.part.specs.Operations.{cellOf, onArray, onRegister}
 use Rattle.part.specs.Output.{store, readAt}
-use Rattle.part.specs.Frame.{Call, Lent, Result, lent, timed, judgedOf, answered}
+use Rattle.part.specs.Frame.{Call, Lent, lent, timed, judgedOf, answered}
 
 pub together : (c : Call) (m : Lent) (d : Device) (j : Judged) (array register output : List ℕ) → d ≡ timed c → j ≡ judgedOf c
     → array ≡ each (cellOf (onArray (j .action) (length (m .array)) (c .input))) (m .array)

@@ -12,7 +12,7 @@ use lib.Bits.{bitOr, or-zero-r}
 use lib.ListN.{length, getD, set, length-set}
 use lib.Pow.{pow-mono}
 use lib.Seq.{getD-set-same, getD-set-other}
-use Rattle.cells.specs.Each.{Cell, each, over, stored}
+use Rattle.cells.specs.Each.{each, over, stored}
 use Rattle.cells.specs.Range.{range, filled, copied}
 use Rattle.cells.proofs.Places.{is-each, each-alike, each-then, over-in, over-out, over-alike}
 use Rattle.cells.proofs.Runs.{range-in, range-behind, range-of}

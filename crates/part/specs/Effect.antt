@@ -1,5 +1,4 @@
 -- When a frame takes effect on the array, and what the effect is: demand 2's "exactly when". Assumes nothing.
-use Prim.Native.Nat.{ℕ}
 use mathlib.Core.Bool.{Bool, _&&_}
 use lib.Dec.{eqb}
 use lib.ListN.{length}

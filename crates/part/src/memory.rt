@@ -6,7 +6,7 @@ use cells::range::fill;
 use opcodes::Region;
 use sheet::judge::Action;
 ghost use mathlib.Core.Path.{_≡_};
-ghost use Prim.Native.Nat.{_≤_, _<_, _%_};
+ghost use Prim.Native.Nat.{_<_, _%_};
 ghost use lib.ListN.{length};
 ghost use Rattle.cells.specs.Each.{each};
 ghost use Rattle.part.specs.Operations.{cellOf, widthOf, onArray, onRegister};

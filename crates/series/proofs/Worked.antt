@@ -1,9 +1,9 @@
 -- The worked table holds: each row by computing its replies and its operations, and the whole table by two computed tests.
 -- Assumes nothing.
-use Prim.Native.Nat.{ℕ, _<_, _≤_}
+use Prim.Native.Nat.{_<_, _≤_}
 use mathlib.Core.Bool.{Bool, true, _&&_, and-eq-true-iff}
 use mathlib.Core.List.{List, [], _∷_, map, tail}
-use mathlib.Core.Path.{_≡_, refl, sym, ap, _∙_}
+use mathlib.Core.Path.{_≡_, refl, ap, _∙_}
 use native.Mathlib.Omega.{arith}
 use borrow.Author.Tests.{leb-true}
 use lib.Dec.{leb}
@@ -16,7 +16,7 @@ use Rattle.settings.specs.Settings.{anyUnfair}
 use Rattle.lent.specs.Refusal.{refusalOf}
 use Rattle.part.specs.Output.{readAt}
 use Rattle.part.specs.Frame.{judgedOf}
-use Rattle.series.specs.Series.{Step, State, results, end}
+use Rattle.series.specs.Series.{State, results, end}
 use Rattle.series.specs.Worked.{Exchange, Reply, Row, Worked, EachWorked, Piece, blank, stepsOf, startOf, replyOf, painted}
 use Rattle.series.specs.Table.{table}
 use Rattle.series.specs.Further.{further}

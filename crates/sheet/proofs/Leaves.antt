@@ -1,7 +1,7 @@
 -- What holds of each answer that judging can give holds of judging: one law, and two uses of it. Assumes nothing.
-use Prim.Native.Nat.{ℕ, _+_, _≤_}
+use Prim.Native.Nat.{_+_, _≤_}
 use mathlib.Core.Bool.{Bool, true, false, false≢true, cond, not, _&&_}
-use mathlib.Core.Path.{_≡_, refl, sym, ap, _∙_}
+use mathlib.Core.Path.{_≡_, refl, sym, ap}
 use native.Mathlib.Decide.{ℕ-discrete}
 use native.Mathlib.Omega.{arith}
 use borrow.Author.Tests.{eq-eqb, ne-eqb}
@@ -22,7 +22,7 @@ use Rattle.sheet.specs.declared.judge.Judged.{Judged}
 use Rattle.sheet.specs.declared.judge.Outcome.{Outcome}
 use Rattle.sheet.specs.Begins.{changesArray, asksFor}
 use Rattle.sheet.specs.Device.{deep, ultraDeep, isBusy, latched, dropped, moved, woken, reset}
-use Rattle.sheet.specs.Judging.{quiet, nothing, control, aborted, driven, read, barred, ordered, carried, worked, obeyed, complete, byOpcode, asleep, onBoundary, judged}
+use Rattle.sheet.specs.Judging.{quiet, nothing, control, aborted, driven, read, barred, ordered, carried, obeyed, complete, byOpcode, asleep, onBoundary, judged}
 
 -- An answer is quiet, a read, or a command carried out.
 module _ (d : Device) (s : Settings) (f : Facts) (P : Judged → Type 0) (quietly : (outcome : Outcome) (e : Device) → P (quiet outcome e))
