@@ -14,7 +14,8 @@ pub enum Memory {
     Register,
 }
 
-// The part of a memory from an address on, up to the count or the memory's end; an empty one if its length is not right.
+// The part of a memory that begins at an address; it has as many bytes as asked for, unless the memory ends before that. Empty if the
+// memory's length is not right.
 fn part(memory: &[u8], right: bool, address: usize, count: usize) -> &[u8]
     requires { ⌜ (right ≡ true → 0 < length (now memory)) ⌝ }
     ensures { λ r. ⌜ now r ≡ cond right (partOf (now (memory .entry)) address count) [] ⌝ }

@@ -1,4 +1,4 @@
-// One chip-select frame on lent memories: refuse, let time pass, judge, show, carry out.
+// The part itself: a chip-select frame, from its first bit to the rise, on memories that the caller lends.
 mod bytes;
 pub mod frame;
 mod memory;

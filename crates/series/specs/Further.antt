@@ -190,7 +190,7 @@ ultra =
     [])
     []
 
--- 01 while BPL is 1: with WP low it is aborted; with WP high BPL takes bit 7, and BP0 stays
+-- 01 while BPL is 1: aborted with WP low; with WP high BPL alone is written
 abbrev locked : Row
 locked =
     row (stands true true true 0) 0xFF

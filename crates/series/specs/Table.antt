@@ -58,7 +58,7 @@ p6-small = row enabled 0x00 ((whole (0x20 ∷ 0x00 ∷ 0x1F ∷ 0xFF ∷ []) 0 �
 abbrev p6-large : Row
 p6-large = row enabled 0x00 ((whole (0xD8 ∷ 0x01 ∷ 0x7F ∷ 0xFF ∷ []) 0 ⇒ quiet "begun" (busy 400000) 4) ∷ []) (piece 0x10000 0x18000 0xFF ∷ [])
 
--- P7: address 020000h is byte 0, FFFFFFh is byte 01FFFFh, and a read goes on from the last byte to byte 0
+-- P7: 020000h names byte 0 and FFFFFFh the last byte, behind which a read goes on with byte 0
 abbrev p7 : Row
 p7 =
     row enabled 0xFF
