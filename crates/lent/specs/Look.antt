@@ -1,5 +1,5 @@
 -- A look at a lent memory without a frame: which part of that memory the caller gets back. Assumes nothing.
-use Prim.Native.Nat.{ℕ, _-_, _%_, min}
+use Prim.Native.Nat.{ℕ, _+_, _-_, _%_, min}
 use mathlib.Core.Bool.{cond}
 use mathlib.Core.List.{List, []}
 use lib.ListN.{length, take, drop}
@@ -21,3 +21,12 @@ partOf memory address count = take (lengthOf memory address count) (drop (startO
 abbrev pub lookedAt : Memory → List ℕ → List ℕ → ℕ → ℕ → List ℕ
 lookedAt Memory.Array array register address count = cond (isArray (length array)) (partOf array address count) []
 lookedAt Memory.Register array register address count = cond (isRegister (length register)) (partOf register address count) []
+
+-- where it lies: a place of the machine's memory is a block and an offset in it; so many bytes behind a place
+abbrev pub behind : ℕ × ℕ → ℕ → ℕ × ℕ
+behind place n = (place .0, n + place .1)
+
+-- in the chosen memory itself, at the part's start; the empty part for a wrong length begins where that memory does
+abbrev pub lookedFrom : Memory → ℕ × ℕ → ℕ × ℕ → List ℕ → List ℕ → ℕ → ℕ × ℕ
+lookedFrom Memory.Array a r array register address = behind a (cond (isArray (length array)) (startOf array address) 0)
+lookedFrom Memory.Register a r array register address = behind r (cond (isRegister (length register)) (startOf register address) 0)

@@ -6,7 +6,8 @@ ghost use mathlib.Core.List.{[]};
 ghost use mathlib.Core.Path.{_≡_};
 ghost use Prim.Native.Nat.{_<_};
 ghost use lib.ListN.{length};
-ghost use Rattle.lent.specs.Look.{partOf, lookedAt};
+ghost use Rattle.lent.specs.Look.{startOf, partOf, behind, lookedAt, lookedFrom};
+ghost use denote.Ref.{ptr};
 
 // Which of the lent memories.
 pub enum Memory {
@@ -19,6 +20,7 @@ pub enum Memory {
 fn part(memory: &[u8], right: bool, address: usize, count: usize) -> &[u8]
     requires { ⌜ (right ≡ true → 0 < length (now memory)) ⌝ }
     ensures { λ r. ⌜ now r ≡ cond right (partOf (now (memory .entry)) address count) [] ⌝ }
+    ensures { λ r. ⌜ ptr r ≡ behind (ptr (memory .entry)) (cond right (startOf (now (memory .entry)) address) 0) ⌝ }
 {
     if right {
         let size = memory.len();
@@ -42,6 +44,9 @@ pub fn look<'a>(
     count: usize,
 ) -> &'a [u8]
     ensures { λ r. ⌜ now r ≡ lookedAt memory (now (array .entry)) (now (register .entry)) address count ⌝ }
+    ensures { λ r. ⌜
+        ptr r ≡ lookedFrom memory (ptr (array .entry)) (ptr (register .entry)) (now (array .entry)) (now (register .entry)) address
+        ⌝ }
 {
     match memory {
         Memory::Array => part(array, is_array(array.len()), address, count),

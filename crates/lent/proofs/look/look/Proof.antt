@@ -16,10 +16,14 @@ part-requires-2 c κs e =
     omega arith
 
 returns : tie.Need-returns
-returns c = rw (c .before .before .enum-told .given .1, c .part .ensures, c .before .is-array .ensures)
+returns c =
+    let told = c .before .before .enum-told .given .1 in
+    (rw (told, c .part .ensures .0, c .before .is-array .ensures), rw (told, c .part .ensures .1, c .before .is-array .ensures))
 
 returns-2 : tie.Need-returns-2
-returns-2 c = rw (c .before .before .enum-told2 .given .1, c .part2 .ensures, c .before .is-register .ensures)
+returns-2 c =
+    let told = c .before .before .enum-told2 .given .1 in
+    (rw (told, c .part2 .ensures .0, c .before .is-register .ensures), rw (told, c .part2 .ensures .1, c .before .is-register .ensures))
 
 pub look-spec : {M : Type 1} → statement M
 look-spec =

@@ -2,7 +2,7 @@
 -- latest. Assumes nothing.
 use Prim.Native.Nat.{_+_, _-_, _%_, _<_, _≤_, min}
 use mathlib.Core.Path.{_≡_}
-use native.Mathlib.Nat.{mod-lt}
+use native.Mathlib.Nat.{mod-lt, zero-add}
 use native.Mathlib.Omega.{arith}
 use borrow.Author.Needs.{needs}
 use lib.ListN.{length}
@@ -29,7 +29,7 @@ returns c =
     let a = c .before .before .before .args in
     let size = length (a .memory .now) in
     let e : a .address % size + a .count - a .address % size ≡ min (a .count) (size - a .address % size) = omega arith in
-    rw (c .before .before .if1 .taken, e)
+    (rw (c .before .before .if1 .taken, e), rw (c .before .before .if1 .taken))
 
 sub-result-2 : tie.Need-sub-result-2
 sub-result-2 c = inside (c .before)
@@ -42,7 +42,10 @@ returns-2 c =
     let a = c .before .before .before .args in
     let size = length (a .memory .now) in
     let e : size - a .address % size ≡ min (a .count) (size - a .address % size) = omega arith in
-    rw (c .before .before .if1 .taken, ← e)
+    (rw (c .before .before .if1 .taken, ← e), rw (c .before .before .if1 .taken))
+
+returns-3 : tie.Need-returns-3
+returns-3 c = (rw (c .before .if1 .left), rw (c .before .if1 .left, zero-add (c .before .before .args .memory .ptr .1)))
 
 pub part-spec : {M : Type 1} → statement M
 part-spec =
@@ -60,4 +63,4 @@ part-spec =
     (λ c. search needs)
     returns-2
     (λ c. search needs)
-    (λ c. search needs))
+    returns-3)
