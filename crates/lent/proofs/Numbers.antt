@@ -1,17 +1,23 @@
--- A refusal's number tells which refusal it is, so that a contract that gives the number gives the refusal. Assumes nothing.
+-- A refusal's number tells which refusal it is, so that a contract that gives the number gives the refusal; and each number that a call
+-- can be given is that of a refusal. Assumes nothing.
 use Prim.Native.Nat.{ℕ}
-use mathlib.Core.Bool.{cond}
+use mathlib.Core.Bool.{Bool, true, false, cond, not}
 use mathlib.Core.Path.{_≡_, refl, sym, ap, _∙_}
-use lib.Dec.{eqb}
+use lib.Dec.{ltb, eqb}
+use Rattle.sheet.specs.declared.device.Device.{Device}
+use Rattle.settings.specs.declared.Settings.{Settings}
+use Rattle.sheet.specs.Device.{unsound}
+use Rattle.settings.specs.Settings.{anyUnfair}
+use Rattle.lent.specs.declared.refusal.Lengths.{Lengths}
 use Rattle.lent.specs.declared.refusal.Refusal.{Refusal}
-use Rattle.lent.specs.Refusal.{numberOf}
+use Rattle.lent.specs.Refusal.{numberOf, isArray, isRegister, bytesFor, refusalOf}
 
 -- what has a way back tells its arguments apart
 pub tells : {A B : Type 0} (f : A → B) (g : B → A) → ((a : A) → g (f a) ≡ a) → (a b : A) → f a ≡ f b → a ≡ b
 tells f g back a b e = sym (back a) ∙ (ap g e ∙ back b)
 
 -- the refusal of a number
-refusalAt : ℕ → Refusal
+unfoldable pub refusalAt : ℕ → Refusal
 refusalAt n =
     cond (eqb n 0) Refusal.Accepted
     (cond (eqb n 1) Refusal.ArrayLength
@@ -35,3 +41,21 @@ back Refusal.Duration = refl
 
 pub number-tells : (a b : Refusal) → numberOf a ≡ numberOf b → a ≡ b
 number-tells = tells numberOf refusalAt back
+
+pub has-refusal : (d : Device) (s : Settings) (bits : ℕ) (lengths : Lengths) → numberOf (refusalAt (refusalOf d s bits lengths)) ≡ refusalOf d s bits lengths
+unfolding refusalAt refusalOf
+has-refusal d s bits lengths =
+    by (not (isArray (lengths .array))) (not (isRegister (lengths .register))) (ltb 8192 (lengths .input)) (not (eqb (bytesFor bits) (lengths .input)))
+    (ltb (lengths .output) (lengths .input)) (unsound d) (anyUnfair (s .ticks))
+  where
+    by : (a b c e f g h : Bool)
+        → numberOf (refusalAt (cond a 1 (cond b 2 (cond c 3 (cond e 4 (cond f 5 (cond g 6 (cond h 7 0))))))))
+        ≡ cond a 1 (cond b 2 (cond c 3 (cond e 4 (cond f 5 (cond g 6 (cond h 7 0))))))
+    by true b c e f g h = refl
+    by false true c e f g h = refl
+    by false false true e f g h = refl
+    by false false false true f g h = refl
+    by false false false false true g h = refl
+    by false false false false false true h = refl
+    by false false false false false false true = refl
+    by false false false false false false false = refl

@@ -1,16 +1,19 @@
--- The contract of a frame admits one answer only: number and word tell the cases apart. Assumes nothing.
+-- The contract of a frame admits one answer, and no other: number and word tell the cases apart. Assumes nothing.
 use Prim.Native.Nat.{ℕ}
 use Prim.Native.String.{String}
-use mathlib.Core.Bool.{cond}
+use mathlib.Core.Bool.{Bool, true, false, cond}
 use mathlib.Core.Path.{_≡_, refl, sym, ap, _∙_}
+use lib.Dec.{eqb}
 use lib.Text.{eqt}
 use Rattle.sheet.specs.declared.device.Device.{Device}
 use Rattle.sheet.specs.declared.judge.Outcome.{Outcome}
 use Rattle.lent.specs.declared.refusal.Refusal.{Refusal}
-use Rattle.lent.proofs.Numbers.{tells, number-tells}
+use Rattle.lent.specs.declared.refusal.Lengths.{Lengths}
+use Rattle.lent.specs.Refusal.{numberOf}
+use Rattle.lent.proofs.Numbers.{tells, refusalAt, number-tells, has-refusal}
 use Rattle.part.specs.declared.frame.Answer.{Answer}
 use Rattle.part.specs.Words.{wordOf}
-use Rattle.part.specs.Frame.{Call, Lent, Result, frame, resultOf}
+use Rattle.part.specs.Frame.{Call, Lent, Reply, Result, lengthsOf, numberFor, judgedOf, answered, refused, replied, frame, replyOf, resultOf, refusing, Meets}
 
 -- the outcome of a word
 outcomeOf : String → Outcome
@@ -42,10 +45,34 @@ same-answer a b p q r s t =
     let e : made (a .refusal) (a .outcome) (a .first) (a .driven) (a .device) ≡ made (b .refusal) (b .outcome) (b .first) (b .driven) (b .device) = rw (p, q, r, s, t) in
     e
 
-pub one-answer : (c : Call) (m : Lent) (a b : Answer) (n o : Lent) → resultOf a n ≡ frame c m → resultOf b o ≡ frame c m → (a ≡ b) × (n ≡ o)
+-- there is no other answer
+pub one-answer : (c : Call) (m : Lent) (a b : Answer) (n o : Lent) → Meets c m a n → Meets c m b o → (a ≡ b) × (n ≡ o)
 one-answer c m a b n o p q =
     let e : resultOf a n ≡ resultOf b o = p ∙ sym q in (
-      same-answer a b (number-tells (a .refusal) (b .refusal) (ap (λ (r : Result). r .refusal) e)) (word-tells (a .outcome) (b .outcome) (ap (λ (r : Result). r .outcome) e))
-          (ap (λ (r : Result). r .first) e) (ap (λ (r : Result). r .driven) e) (ap (λ (r : Result). r .device) e),
+      same-answer a b (number-tells (a .refusal) (b .refusal) (ap (λ (r : Result). r .reply .refusal) e)) (word-tells (a .outcome) (b .outcome) (ap (λ (r : Result). r .reply .outcome) e))
+          (ap (λ (r : Result). r .reply .first) e) (ap (λ (r : Result). r .reply .driven) e) (ap (λ (r : Result). r .reply .device) e),
       ap (λ (r : Result). r .lent) e,
     )
+
+numbered : (c : Call) (lengths : Lengths) → numberOf (refusalAt (numberFor c lengths)) ≡ numberFor c lengths
+unfolding numberFor
+numbered c lengths = has-refusal (c .device) (c .settings) (c .signals .bits) lengths
+
+-- and there is one
+pub answerOf : Call → Lengths → Answer
+answerOf c lengths =
+    let j = judgedOf c in
+    cond (eqb (numberFor c lengths) 0) (made Refusal.Accepted (j .outcome) (j .first) (j .driven) (j .device))
+    (refusing (refusalAt (numberFor c lengths)) (c .device))
+
+pub some-answer : (c : Call) (m : Lent) → Meets c m (answerOf c (lengthsOf c m)) (frame c m .lent)
+unfolding answerOf made frame replied
+some-answer c m = ap (λ (r : Reply). record { reply = r; lent = frame c m .lent }) (by (eqb (numberFor c (lengthsOf c m)) 0))
+  where
+    number : ℕ
+    number = numberFor c (lengthsOf c m)
+
+    by : (b : Bool) → replyOf (cond b (made Refusal.Accepted (judgedOf c .outcome) (judgedOf c .first) (judgedOf c .driven) (judgedOf c .device)) (refusing (refusalAt number) (c .device)))
+        ≡ cond b (answered (judgedOf c)) (refused number (c .device))
+    by true = refl
+    by false = ap (λ (n : ℕ). refused n (c .device)) (numbered c (lengthsOf c m))

@@ -14,7 +14,7 @@ use Rattle.sheet.proofs.Begins.{exactly-when}
 use Rattle.sheet.proofs.Leaves.{as-asked}
 use Rattle.part.specs.Words.{wordOf}
 use Rattle.part.specs.Operations.{cellOf, onArray}
-use Rattle.part.specs.Frame.{Call, Lent, numberFor, timed, factsOf, judgedOf, frame}
+use Rattle.part.specs.Frame.{Call, Lent, lengthsOf, numberFor, timed, factsOf, judgedOf, replied, frame}
 use Rattle.part.specs.Effect.{takesEffect, operationOf}
 
 module _ (c : Call) (m : Lent) where
@@ -32,29 +32,29 @@ module _ (c : Call) (m : Lent) where
   idle Action.Otp e = sym (each-same (m .array))
 
   -- only then: the array stays, unless the frame takes effect
-  pub only-then : takesEffect c m ≡ false → frame c m .lent .array ≡ m .array
+  pub only-then : takesEffect c (lengthsOf c m) ≡ false → frame c m .lent .array ≡ m .array
   unfolding frame
-  only-then e = by (eqb (numberFor c m) 0) refl e
+  only-then e = by (eqb (numberFor c (lengthsOf c m)) 0) refl e
     where
-      by : (b : Bool) → eqb (numberFor c m) 0 ≡ b → (b && ready (timed c) (factsOf c)) ≡ false → frame c m .lent .array ≡ m .array
+      by : (b : Bool) → eqb (numberFor c (lengthsOf c m)) 0 ≡ b → (b && ready (timed c) (factsOf c)) ≡ false → frame c m .lent .array ≡ m .array
       by true t e = rw t (idle (judgedOf c .action) (begins ∙ e))
       by false t e = rw t
 
   -- a byte that is not what it was tells that it did
-  pub changed-then : (k : ℕ) → getD (frame c m .lent .array) k 0 ≢ getD (m .array) k 0 → takesEffect c m ≡ true
-  changed-then k d = by (takesEffect c m) refl
+  pub changed-then : (k : ℕ) → getD (frame c m .lent .array) k 0 ≢ getD (m .array) k 0 → takesEffect c (lengthsOf c m) ≡ true
+  changed-then k d = by (takesEffect c (lengthsOf c m)) refl
     where
-      by : (b : Bool) → takesEffect c m ≡ b → b ≡ true
+      by : (b : Bool) → takesEffect c (lengthsOf c m) ≡ b → b ≡ true
       by true e = refl
       by false e = absurd (d (ap (λ (xs : List ℕ). getD xs k 0) (only-then e)))
 
   -- and then always: the operation that the opcode asks for is carried out, and the outcome is begun
-  pub then-always : takesEffect c m ≡ true → (frame c m .lent .array ≡ each (cellOf (operationOf c m)) (m .array)) × (frame c m .outcome ≡ "begun")
-  unfolding frame judgedOf
-  then-always e = by (eqb (numberFor c m) 0) refl e
+  pub then-always : takesEffect c (lengthsOf c m) ≡ true → (frame c m .lent .array ≡ each (cellOf (operationOf c (lengthsOf c m))) (m .array)) × (frame c m .reply .outcome ≡ "begun")
+  unfolding frame replied judgedOf
+  then-always e = by (eqb (numberFor c (lengthsOf c m)) 0) refl e
     where
-      by : (b : Bool) → eqb (numberFor c m) 0 ≡ b → (b && ready (timed c) (factsOf c)) ≡ true
-          → (frame c m .lent .array ≡ each (cellOf (operationOf c m)) (m .array)) × (frame c m .outcome ≡ "begun")
+      by : (b : Bool) → eqb (numberFor c (lengthsOf c m)) 0 ≡ b → (b && ready (timed c) (factsOf c)) ≡ true
+          → (frame c m .lent .array ≡ each (cellOf (operationOf c (lengthsOf c m))) (m .array)) × (frame c m .reply .outcome ≡ "begun")
       by true t e =
           let w = as-asked (timed c) (c .settings) (factsOf c) (begins ∙ e) in
           rw t (ap (λ (a : Action). each (cellOf (onArray a (length (m .array)) (c .input))) (m .array)) (w .0), ap wordOf (w .1))

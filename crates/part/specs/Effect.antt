@@ -1,16 +1,16 @@
 -- When a frame takes effect on the array, and what the effect is: demand 2's "exactly when". Assumes nothing.
 use mathlib.Core.Bool.{Bool, _&&_}
 use lib.Dec.{eqb}
-use lib.ListN.{length}
 use Rattle.opcodes.specs.Rows.{rowOf}
 use Rattle.sheet.specs.Begins.{asksFor, ready}
-use Rattle.part.specs.Frame.{Call, Lent, numberFor, timed, factsOf}
+use Rattle.lent.specs.declared.refusal.Lengths.{Lengths}
+use Rattle.part.specs.Frame.{Call, numberFor, timed, factsOf}
 use Rattle.part.specs.Operations.{Operation, onArray}
 
 -- the call is accepted, and the frame is a program or an erase, complete, on a boundary, with WEL 1, the part awake, idle, BP0 0
-abbrev pub takesEffect : Call → Lent → Bool
-takesEffect c m = eqb (numberFor c m) 0 && ready (timed c) (factsOf c)
+abbrev pub takesEffect : Call → Lengths → Bool
+takesEffect c lengths = eqb (numberFor c lengths) 0 && ready (timed c) (factsOf c)
 
 -- the operation that the frame's opcode asks for
-abbrev pub operationOf : Call → Lent → Operation
-operationOf c m = onArray (asksFor (rowOf (factsOf c .code) .command)) (length (m .array)) (c .input)
+abbrev pub operationOf : Call → Lengths → Operation
+operationOf c lengths = onArray (asksFor (rowOf (factsOf c .code) .command)) (lengths .array) (c .input)

@@ -3,6 +3,7 @@ use Prim.Native.Nat.{ℕ}
 use Prim.Native.String.{String}
 use mathlib.Core.Bool.{cond}
 use mathlib.Core.List.{List}
+use mathlib.Core.Path.{_≡_}
 use lib.Dec.{eqb}
 use lib.ListN.{length, getD}
 use Rattle.cells.specs.Each.{each, stored}
@@ -43,21 +44,25 @@ pub record Lent : Type 0 where
 abbrev pub lent : List ℕ → List ℕ → List ℕ → Lent
 lent array register output = record { array = array; register = register; output = output }
 
--- what comes back, by the paper's number and word, and what the memories then hold
-pub record Result : Type 0 where
+-- what comes back, by the paper's number and word
+pub record Reply : Type 0 where
   pub refusal : ℕ
   pub outcome : String
   pub first : ℕ
   pub driven : ℕ
   pub device : Device
+
+-- the result of a call: what comes back, and what the memories then hold
+pub record Result : Type 0 where
+  pub reply : Reply
   pub lent : Lent
 
 abbrev pub lengthsOf : Call → Lent → Lengths
 lengthsOf c m = record { array = length (m .array); register = length (m .register); input = length (c .input); output = length (m .output) }
 
 -- the number of its refusal; 0 if there is none
-unfoldable pub numberFor : Call → Lent → ℕ
-numberFor c m = refusalOf (c .device) (c .settings) (c .signals .bits) (lengthsOf c m)
+unfoldable pub numberFor : Call → Lengths → ℕ
+numberFor c lengths = refusalOf (c .device) (c .settings) (c .signals .bits) lengths
 
 -- time passes first
 abbrev pub timed : Call → Device
@@ -75,6 +80,18 @@ factsOf c = factsFor (c .input) (c .signals)
 unfoldable pub judgedOf : Call → Judged
 judgedOf c = judged (timed c) (c .settings) (factsOf c)
 
+-- what comes back from an accepted call
+abbrev pub answered : Judged → Reply
+answered j = record { refusal = 0; outcome = wordOf (j .outcome); first = j .first; driven = j .driven; device = j .device }
+
+-- and from a refused one: its number, the record untouched, nothing driven
+abbrev pub refused : ℕ → Device → Reply
+refused number d = record { refusal = number; outcome = "nothing"; first = 0; driven = 0; device = d }
+
+-- what comes back: of the memories only the lengths bear on it
+unfoldable pub replied : Call → Lengths → Reply
+replied c lengths = cond (eqb (numberFor c lengths) 0) (answered (judgedOf c)) (refused (numberFor c lengths) (c .device))
+
 -- what the memories then hold: the operations took effect, and of the output the first n bytes are written
 abbrev pub arrayAfter : Call → Lent → List ℕ
 arrayAfter c m = each (cellOf (onArray (judgedOf c .action) (length (m .array)) (c .input))) (m .array)
@@ -88,37 +105,31 @@ outputAfter c m =
     (stored (range 0 (length (c .input)))
     (readAt (judgedOf c) (timed c) (c .signals .wp) (c .signals .bits) (store (m .array)) (store (m .register)) (c .input))) (m .output)
 
+abbrev pub lentAfter : Call → Lent → Lent
+lentAfter c m = lent (arrayAfter c m) (registerAfter c m) (outputAfter c m)
+
 -- an accepted call
-abbrev pub answered : Call → Lent → Result
-answered c m =
-    record {
-      refusal = 0;
-      outcome = wordOf (judgedOf c .outcome);
-      first = judgedOf c .first;
-      driven = judgedOf c .driven;
-      device = judgedOf c .device;
-      lent = lent (arrayAfter c m) (registerAfter c m) (outputAfter c m);
-    }
+abbrev pub served : Call → Lent → Result
+served c m = record { reply = answered (judgedOf c); lent = lentAfter c m }
 
--- a refused one: its number, the record untouched, nothing driven, and every byte that was lent as it was
-abbrev pub refused : ℕ → Call → Lent → Result
-refused number c m = record { refusal = number; outcome = "nothing"; first = 0; driven = 0; device = c .device; lent = m }
-
--- one frame
+-- one frame; a refused call leaves every byte that was lent as it was
 unfoldable pub frame : Call → Lent → Result
-frame c m = cond (eqb (numberFor c m) 0) (answered c m) (refused (numberFor c m) c m)
+frame c m =
+    record {
+      reply = replied c (lengthsOf c m);
+      lent = cond (eqb (numberFor c (lengthsOf c m)) 0) (lentAfter c m) m;
+    }
 
 -- an answer of the code, by the paper's number and word
+abbrev pub replyOf : Answer → Reply
+replyOf a = record { refusal = numberOf (a .refusal); outcome = wordOf (a .outcome); first = a .first; driven = a .driven; device = a .device }
+
 abbrev pub resultOf : Answer → Lent → Result
-resultOf a m =
-    record {
-      refusal = numberOf (a .refusal);
-      outcome = wordOf (a .outcome);
-      first = a .first;
-      driven = a .driven;
-      device = a .device;
-      lent = m;
-    }
+resultOf a m = record { reply = replyOf a; lent = m }
 
 abbrev pub refusing : Refusal → Device → Answer
 refusing refusal d = record { refusal = refusal; outcome = Outcome.Nothing; first = 0; driven = 0; device = d }
+
+-- the contract of a call: its answer and what it leaves of the lent memories are the frame's
+abbrev pub Meets : Call → Lent → Answer → Lent → Type 0
+Meets c before a after = resultOf a after ≡ frame c before

@@ -66,11 +66,12 @@ fn served(
     output: &mut [u8],
 ) -> Answer
     requires { ⌜
-        spec.numberFor (spec.call device settings (now input) signals) (spec.lent (now array) (now register) (now output)) ≡ 0
+        spec.numberFor (spec.call device settings (now input) signals)
+        (spec.lengthsOf (spec.call device settings (now input) signals) (spec.lent (now array) (now register) (now output))) ≡ 0
         ⌝ }
     ensures { λ r. ⌜
         spec.resultOf r (spec.lent (now (array .exit)) (now (register .exit)) (now (output .exit))) ≡
-        spec.answered (spec.call device settings (now (input .entry)) signals)
+        spec.served (spec.call device settings (now (input .entry)) signals)
         (spec.lent (now (array .entry)) (now (register .entry)) (now (output .entry)))
         ⌝ }
 {
@@ -110,9 +111,9 @@ pub fn frame(
     output: &mut [u8],
 ) -> Answer
     ensures { λ r. ⌜
-        spec.resultOf r (spec.lent (now (array .exit)) (now (register .exit)) (now (output .exit))) ≡
-        spec.frame (spec.call device settings (now (input .entry)) signals)
-        (spec.lent (now (array .entry)) (now (register .entry)) (now (output .entry)))
+        spec.Meets (spec.call device settings (now (input .entry)) signals)
+        (spec.lent (now (array .entry)) (now (register .entry)) (now (output .entry))) r
+        (spec.lent (now (array .exit)) (now (register .exit)) (now (output .exit)))
         ⌝ }
 {
     let lengths = Lengths {

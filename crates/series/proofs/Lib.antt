@@ -1,4 +1,10 @@
+pub mod Lending
+pub mod Applied
+pub mod Turns
+pub mod Steps
+pub mod Promises
 pub mod Halves
 pub mod Told
 pub mod Runs
 pub mod Worked
+pub mod Example

@@ -1,23 +1,23 @@
--- A series on memories that are told: its replies and what it leaves are computed from lengths, frames and operations, without the list
--- of a memory's bytes. Assumes nothing.
+-- A series on memories that are told: what comes back and what it leaves are computed from lengths, frames and operations, without the
+-- list of a memory's bytes. Assumes nothing.
 use Prim.Native.Nat.{ℕ, _<_}
 use mathlib.Core.Bool.{Bool, true, false, cond}
 use mathlib.Core.List.{List, [], _∷_, map}
-use mathlib.Core.Path.{_≡_, refl, ap, _∙_}
+use mathlib.Core.Path.{_≡_, refl, sym, ap, _∙_}
 use lib.Dec.{eqb}
 use lib.ListN.{length}
 use Rattle.cells.specs.Each.{each, stored}
 use Rattle.cells.specs.Range.{range}
 use Rattle.sheet.specs.declared.device.Device.{Device}
-use Rattle.sheet.specs.declared.judge.Judged.{Judged}
-use Rattle.lent.specs.Refusal.{refusalOf}
-use Rattle.part.specs.Words.{wordOf}
-use Rattle.part.specs.Operations.{onArray, onRegister}
-use Rattle.part.specs.Output.{readAt}
-use Rattle.part.specs.Frame.{Call, Lent, call, lent, timed, judgedOf, numberFor, answered, refused, frame}
-use Rattle.series.specs.Series.{Step, State, resultOf, left, results, end}
-use Rattle.series.specs.Worked.{Reply, replyOf}
-use Rattle.series.proofs.Told.{Told, memoryOf, toldStore, one-more, length-told, goes-on, read-told}
+use Rattle.part.specs.Output.{Store, readAt}
+use Rattle.part.specs.Frame.{Call, Lent, lent, timed, judgedOf, numberFor, frame}
+use Rattle.part.specs.Frame as part
+use Rattle.series.specs.Turns.{callOf, lengthsOf, replyTo, effectOf}
+use Rattle.series.specs.Series.{Step, State, lentTo, resultOf, left, results, end}
+use Rattle.series.specs.Worked.{Came, cameOf}
+use Rattle.series.proofs.Lending.{lent-all}
+use Rattle.series.proofs.Steps.{same-lengths, reply-is, array-is, onceOf, register-is}
+use Rattle.series.proofs.Told.{Told, memoryOf, toldStore, more, length-told, goes-on, read-told}
 
 -- what stands between the calls, told
 pub record Scene : Type 0 where
@@ -28,112 +28,101 @@ pub record Scene : Type 0 where
 abbrev pub stateOf : Scene → State
 stateOf t = record { device = t .device; array = memoryOf (t .array); register = memoryOf (t .register) }
 
-abbrev callOf : Step → Scene → Call
-callOf s t = call (t .device) (s .settings) (s .input) (s .signals)
+-- the step lends its memories whole
+pub record Whole (size other : ℕ) (s : Step) : Type 0 where
+  pub array : s .turn .array ≡ size
+  pub register : s .turn .register ≡ other
+  pub output : s .turn .output ≡ length (s .buffer)
 
-abbrev lentOf : Step → Scene → Lent
-lentOf s t = lent (memoryOf (t .array)) (memoryOf (t .register)) (s .output)
-
--- a call's number, reply and scene afterwards, computed
-unfoldable pub numberTold : Step → Scene → ℕ
-numberTold s t =
-    refusalOf (t .device) (s .settings) (s .signals .bits)
-    (record { array = t .array .plain .size; register = t .register .plain .size; input = length (s .input); output = length (s .output) })
-
-abbrev outputTold : Step → Scene → List ℕ
-outputTold s t =
+-- what comes back from a step, and the scene afterwards, computed
+abbrev written : Call → Store → Store → List ℕ → List ℕ
+written c array register buffer =
     each
-    (stored (range 0 (length (s .input)))
-    (readAt (judgedOf (callOf s t)) (timed (callOf s t)) (s .signals .wp) (s .signals .bits) (toldStore (t .array)) (toldStore (t .register)) (s .input)))
-    (s .output)
+    (stored (range 0 (length (c .input))) (readAt (judgedOf c) (timed c) (c .signals .wp) (c .signals .bits) array register (c .input)))
+    buffer
 
-abbrev replying : Judged → List ℕ → Reply
-replying j output =
-    record { refusal = 0; outcome = wordOf (j .outcome); first = j .first; driven = j .driven; device = j .device; output = output }
-
-abbrev refusing : ℕ → Step → Scene → Reply
-refusing number s t = record { refusal = number; outcome = "nothing"; first = 0; driven = 0; device = t .device; output = s .output }
-
-unfoldable pub replyTold : Step → Scene → Reply
-replyTold s t = cond (eqb (numberTold s t) 0) (replying (judgedOf (callOf s t)) (outputTold s t)) (refusing (numberTold s t) s t)
-
-abbrev moved : Judged → Step → Scene → Scene
-moved j s t =
+unfoldable pub cameTold : Step → Scene → Came
+cameTold s t =
     record {
-      device = j .device;
-      array = one-more (onArray (j .action) (t .array .plain .size) (s .input)) (t .array);
-      register = one-more (onRegister (j .action) (s .input)) (t .register);
+      reply = replyTo (s .turn) (t .device);
+      output =
+          cond (eqb (numberFor (callOf (s .turn) (t .device)) (lengthsOf (s .turn))) 0)
+          (written (callOf (s .turn) (t .device)) (toldStore (t .array)) (toldStore (t .register)) (s .buffer))
+          (s .buffer);
     }
 
 unfoldable pub next : Step → Scene → Scene
-next s t = cond (eqb (numberTold s t) 0) (moved (judgedOf (callOf s t)) s t) t
+next s t =
+    record {
+      device = replyTo (s .turn) (t .device) .device;
+      array = more (effectOf (s .turn) (t .device)) (t .array);
+      register = more (onceOf (s .turn) (t .device)) (t .register);
+    }
 
-unfoldable pub repliesTold : List Step → Scene → List Reply
-repliesTold [] t = []
-repliesTold (s ∷ ss) t = replyTold s t ∷ repliesTold ss (next s t)
+unfoldable pub allTold : List Step → Scene → List Came
+allTold [] t = []
+allTold (s ∷ ss) t = cameTold s t ∷ allTold ss (next s t)
 
 unfoldable pub endTold : List Step → Scene → Scene
 endTold [] t = t
 endTold (s ∷ ss) t = endTold ss (next s t)
 
-module _ (s : Step) (t : Scene) (has : 0 < t .array .plain .size) (holds : 0 < t .register .plain .size) where
-  number-told : numberFor (callOf s t) (lentOf s t) ≡ numberTold s t
-  unfolding numberFor numberTold
-  number-told = rw (length-told (t .array), length-told (t .register))
+-- what the step leaves
+left-told : (s : Step) (t : Scene) → left (resultOf s (stateOf t)) (stateOf t) ≡ stateOf (next s t)
+unfolding next
+left-told s t =
+    rw (reply-is s (stateOf t), array-is s (stateOf t), register-is s (stateOf t), goes-on (effectOf (s .turn) (t .device)) (t .array), goes-on (onceOf (s .turn) (t .device)) (t .register))
 
-  -- the reply
-  reply-told : replyOf (resultOf s (stateOf t)) ≡ replyTold s t
-  unfolding frame replyTold
-  reply-told = rw number-told (by (eqb (numberTold s t) 0))
+module _ (s : Step) (t : Scene) (has : 0 < t .array .plain .size) (holds : 0 < t .register .plain .size)
+    (whole : Whole (t .array .plain .size) (t .register .plain .size) s) where
+  abbrev c : Call
+  c = callOf (s .turn) (t .device)
+
+  lent-told : lentTo s (stateOf t) ≡ lent (memoryOf (t .array)) (memoryOf (t .register)) (s .buffer)
+  lent-told =
+      rw (
+        lent-all (s .turn .array) (memoryOf (t .array)) (s .behind) (whole .array ∙ sym (length-told (t .array))),
+        lent-all (s .turn .register) (memoryOf (t .register)) (s .behind) (whole .register ∙ sym (length-told (t .register))),
+        lent-all (s .turn .output) (s .buffer) (s .behind) (whole .output),
+      )
+
+  output-told : resultOf s (stateOf t) .lent .output
+      ≡ cond (eqb (numberFor c (lengthsOf (s .turn))) 0) (written c (toldStore (t .array)) (toldStore (t .register)) (s .buffer)) (s .buffer)
+  unfolding frame
+  output-told =
+      rw (same-lengths s (stateOf t))
+      (ap (λ (m : Lent). cond (eqb (numberFor c (lengthsOf (s .turn))) 0) (part.lentAfter c m) m .output) lent-told ∙
+      by (eqb (numberFor c (lengthsOf (s .turn))) 0))
     where
       by : (b : Bool)
-          → replyOf (cond b (answered (callOf s t) (lentOf s t)) (refused (numberTold s t) (callOf s t) (lentOf s t)))
-          ≡ cond b (replying (judgedOf (callOf s t)) (outputTold s t)) (refusing (numberTold s t) s t)
-      by true =
-          ap (replying (judgedOf (callOf s t)))
-          (read-told (t .array) (t .register) has holds (judgedOf (callOf s t)) (timed (callOf s t)) (s .signals .wp) (s .signals .bits) (s .input) (s .output))
+          → cond b (part.lentAfter c (lent (memoryOf (t .array)) (memoryOf (t .register)) (s .buffer))) (lent (memoryOf (t .array)) (memoryOf (t .register)) (s .buffer)) .output
+          ≡ cond b (written c (toldStore (t .array)) (toldStore (t .register)) (s .buffer)) (s .buffer)
+      by true = read-told (t .array) (t .register) has holds (judgedOf c) (timed c) (c .signals .wp) (c .signals .bits) (c .input) (s .buffer)
       by false = refl
 
-  -- what the call leaves
-  left-told : left (resultOf s (stateOf t)) ≡ stateOf (next s t)
-  unfolding frame next
-  left-told = rw number-told (by (eqb (numberTold s t) 0))
-    where
-      j : Judged
-      j = judgedOf (callOf s t)
+  came-told : cameOf (resultOf s (stateOf t)) ≡ cameTold s t
+  unfolding cameTold
+  came-told = rw (reply-is s (stateOf t), output-told)
 
-      by : (b : Bool)
-          → left (cond b (answered (callOf s t) (lentOf s t)) (refused (numberTold s t) (callOf s t) (lentOf s t)))
-          ≡ stateOf (cond b (moved (judgedOf (callOf s t)) s t) t)
-      by true = rw (length-told (t .array), goes-on (onArray (j .action) (t .array .plain .size) (s .input)) (t .array), goes-on (onRegister (j .action) (s .input)) (t .register))
-      by false = refl
+-- every step of a list lends its memories whole
+unfoldable pub AllWhole : ℕ → ℕ → List Step → Type 0
+AllWhole size other [] = Unit
+AllWhole size other (s ∷ ss) = Whole size other s × AllWhole size other ss
+
+pub all-told : (ss : List Step) (t : Scene) → 0 < t .array .plain .size → 0 < t .register .plain .size
+    → AllWhole (t .array .plain .size) (t .register .plain .size) ss → map cameOf (results ss (stateOf t)) ≡ allTold ss t
+unfolding results allTold next AllWhole
+all-told [] t has holds whole = refl
+all-told (s ∷ ss) t has holds whole =
+    rw (came-told s t has holds (whole .0), left-told s t) (ap (λ (cs : List Came). cameTold s t ∷ cs) (all-told ss (next s t) has holds (whole .1)))
+
+pub end-told : (ss : List Step) (t : Scene) → end ss (stateOf t) ≡ stateOf (endTold ss t)
+unfolding end endTold
+end-told [] t = refl
+end-told (s ∷ ss) t = rw (left-told s t) (end-told ss (next s t))
 
 -- what the memories held at first stays
-same-plain : (s : Step) (t : Scene) → (next s t .array .plain ≡ t .array .plain) × (next s t .register .plain ≡ t .register .plain)
-unfolding next
-same-plain s t = by (eqb (numberTold s t) 0)
-  where
-    by : (b : Bool)
-        → (cond b (moved (judgedOf (callOf s t)) s t) t .array .plain ≡ t .array .plain)
-        × (cond b (moved (judgedOf (callOf s t)) s t) t .register .plain ≡ t .register .plain)
-    by true = (refl, refl)
-    by false = (refl, refl)
-
-pub replies-told : (ss : List Step) (t : Scene) → 0 < t .array .plain .size → 0 < t .register .plain .size → map replyOf (results ss (stateOf t)) ≡ repliesTold ss t
-unfolding results repliesTold
-replies-told [] t has holds = refl
-replies-told (s ∷ ss) t has holds =
-    rw (left-told s t has holds, reply-told s t has holds)
-    (ap (λ (rs : List Reply). replyTold s t ∷ rs) (replies-told ss (next s t) (rw (same-plain s t .0) has) (rw (same-plain s t .1) holds)))
-
-pub end-told : (ss : List Step) (t : Scene) → 0 < t .array .plain .size → 0 < t .register .plain .size → end ss (stateOf t) ≡ stateOf (endTold ss t)
-unfolding end endTold
-end-told [] t has holds = refl
-end-told (s ∷ ss) t has holds =
-    rw (left-told s t has holds) (end-told ss (next s t) (rw (same-plain s t .0) has) (rw (same-plain s t .1) holds))
-
--- at the end too
 pub end-plain : (ss : List Step) (t : Scene) → (endTold ss t .array .plain ≡ t .array .plain) × (endTold ss t .register .plain ≡ t .register .plain)
-unfolding endTold
+unfolding endTold next
 end-plain [] t = (refl, refl)
-end-plain (s ∷ ss) t = (end-plain ss (next s t) .0 ∙ same-plain s t .0, end-plain ss (next s t) .1 ∙ same-plain s t .1)
+end-plain (s ∷ ss) t = end-plain ss (next s t)

@@ -2,7 +2,7 @@
 -- list of its bytes. Assumes nothing.
 use Prim.Native.Nat.{ℕ, _+_, _-_, _%_, _<_, _≤_}
 use mathlib.Core.Bool.{Bool, true, false, cond, _&&_, _||_, and-eq-true-iff}
-use mathlib.Core.List.{List, [], _∷_}
+use mathlib.Core.List.{List, [], _∷_, _++_}
 use mathlib.Core.Path.{_≡_, refl, sym, ap, _∙_}
 use native.Mathlib.Nat.{mod-lt}
 use native.Mathlib.Omega.{arith}
@@ -12,7 +12,7 @@ use lib.Dec.{leb, eqb}
 use lib.ListN.{length, getD, length-replicate, getD-replicate}
 use Rattle.cells.specs.Each.{Cell, each, over}
 use Rattle.cells.specs.Range.{range}
-use Rattle.cells.proofs.Places.{length-each, getD-each, is-each, each-alike, each-then, over-alike}
+use Rattle.cells.proofs.Places.{getD-each, each-alike, over-alike}
 use Rattle.cells.proofs.Runs.{range-in, range-before, range-behind}
 use Rattle.opcodes.specs.declared.Source.{Source}
 use Rattle.opcodes.specs.declared.Source.the-variants.{Array, Register, Status, Identity, Legacy}
@@ -21,7 +21,9 @@ use Rattle.sheet.specs.declared.judge.Action.{Action}
 use Rattle.sheet.specs.declared.judge.Judged.{Judged}
 use Rattle.part.specs.Operations.{Operation, none, program, erase, cellOf}
 use Rattle.part.specs.Output.{Store, store, storeOf, startOf, byteFrom, lineAt, unclocked, readAt}
+use Rattle.series.specs.Bytes.{applied}
 use Rattle.series.specs.Worked.{Piece, blank, painted}
+use Rattle.series.proofs.Applied.{applied-joined, applied-each, length-applied, through}
 use Rattle.series.proofs.Halves.{everywhere, halved, at-each}
 
 -- one byte everywhere
@@ -29,57 +31,50 @@ pub record Plain : Type 0 where
   pub size : ℕ
   pub holds : ℕ
 
--- the operations are listed with the last one first
+-- and the operations since then, in order
 pub record Told : Type 0 where
   pub plain : Plain
   pub done : List Operation
 
--- what they make of a byte at its place
-unfoldable pub value : List Operation → Cell
-value [] k x = x
-value (o ∷ os) k x = cellOf o k (value os k x)
-
 abbrev pub told : ℕ → ℕ → Told
 told size holds = record { plain = record { size = size; holds = holds }; done = [] }
 
-abbrev pub one-more : Operation → Told → Told
-one-more o t = record { plain = t .plain; done = o ∷ t .done }
+abbrev pub more : List Operation → Told → Told
+more os t = record { plain = t .plain; done = t .done ++ os }
 
 -- the memory, and the same as a store that is computed
 unfoldable pub memoryOf : Told → List ℕ
-memoryOf t = each (value (t .done)) (blank (t .plain .size) (t .plain .holds))
+memoryOf t = applied (t .done) (blank (t .plain .size) (t .plain .holds))
 
 abbrev pub toldStore : Told → Store
-toldStore t = record { size = t .plain .size; at = λ k. value (t .done) k (t .plain .holds) }
+toldStore t = record { size = t .plain .size; at = λ k. through (t .done) k (t .plain .holds) }
 
-length-blank : (size byte : ℕ) → length (blank size byte) ≡ size
+pub length-blank : (size byte : ℕ) → length (blank size byte) ≡ size
 unfolding blank
 length-blank size byte = length-replicate {A = ℕ} size byte
 
-getD-blank : (size byte k : ℕ) → k < size → getD (blank size byte) k 0 ≡ byte
+pub getD-blank : (size byte k : ℕ) → k < size → getD (blank size byte) k 0 ≡ byte
 unfolding blank
 getD-blank size byte k l = getD-replicate {A = ℕ} size k byte 0 l
 
 pub begins-blank : (size holds : ℕ) → blank size holds ≡ memoryOf (told size holds)
-unfolding memoryOf value
-begins-blank size holds = same (blank size holds)
-  where
-    same : (xs : List ℕ) → xs ≡ each (value []) xs
-    same xs = is-each (value []) xs xs refl (λ k l. refl)
+unfolding memoryOf applied
+begins-blank size holds = refl
 
 pub length-told : (t : Told) → length (memoryOf t) ≡ t .plain .size
 unfolding memoryOf
-length-told t = length-each (value (t .done)) (blank (t .plain .size) (t .plain .holds)) ∙ length-blank (t .plain .size) (t .plain .holds)
+length-told t = length-applied (t .done) (blank (t .plain .size) (t .plain .holds)) ∙ length-blank (t .plain .size) (t .plain .holds)
 
-getD-told : (t : Told) (k : ℕ) → k < t .plain .size → getD (memoryOf t) k 0 ≡ value (t .done) k (t .plain .holds)
+getD-told : (t : Told) (k : ℕ) → k < t .plain .size → getD (memoryOf t) k 0 ≡ through (t .done) k (t .plain .holds)
 unfolding memoryOf
 getD-told t k l =
-    getD-each (value (t .done)) (blank (t .plain .size) (t .plain .holds)) k 0 (omega (arith, length-blank (t .plain .size) (t .plain .holds))) ∙
-    ap (value (t .done) k) (getD-blank (t .plain .size) (t .plain .holds) k l)
+    ap (λ (xs : List ℕ). getD xs k 0) (applied-each (t .done) (blank (t .plain .size) (t .plain .holds))) ∙
+    (getD-each (through (t .done)) (blank (t .plain .size) (t .plain .holds)) k 0 (omega (arith, length-blank (t .plain .size) (t .plain .holds))) ∙
+    ap (through (t .done) k) (getD-blank (t .plain .size) (t .plain .holds) k l))
 
-pub goes-on : (o : Operation) (t : Told) → each (cellOf o) (memoryOf t) ≡ memoryOf (one-more o t)
-unfolding memoryOf value
-goes-on o t = each-then (cellOf o) (value (t .done)) (value (o ∷ t .done)) (blank (t .plain .size) (t .plain .holds)) (λ k l. refl)
+pub goes-on : (os : List Operation) (t : Told) → applied os (memoryOf t) ≡ memoryOf (more os t)
+unfolding memoryOf
+goes-on os t = sym (applied-joined (t .done) os (blank (t .plain .size) (t .plain .holds)))
 
 -- A read of the memory is a read of the store that is computed.
 module _ (array register : Told) (has : 0 < array .plain .size) (holds : 0 < register .plain .size) where
@@ -170,12 +165,12 @@ module _ (low n k : ℕ) (p : low ≤ k) (q : k < low + n) where
   steady-cell (program size page start sent) x e = rw (left-out page (page + size) e .0, left-out page (page + size) e .1)
   steady-cell (erase from to) x e = rw (same-side from to e)
 
-  steady-value : (os : List Operation) (x : ℕ) → steadyOperations os low n ≡ true → value os k x ≡ value os low x
-  unfolding value steadyOperations
-  steady-value [] x e = refl
-  steady-value (o ∷ os) x e =
+  steady-through : (os : List Operation) (x : ℕ) → steadyOperations os low n ≡ true → through os k x ≡ through os low x
+  unfolding through steadyOperations
+  steady-through [] x e = refl
+  steady-through (o ∷ os) x e =
       let w : (steadyFor o low n ≡ true) × (steadyOperations os low n ≡ true) = and-eq-true-iff (steadyFor o low n) (steadyOperations os low n) .0 e in
-      steady-cell o (value os k x) (w .0) ∙ ap (cellOf o low) (steady-value os x (w .1))
+      ap (through os k) (steady-cell o x (w .0)) ∙ steady-through os (cellOf o low x) (w .1)
 
   steady-painted : (ps : List Piece) (x : ℕ) → steadyPieces ps low n ≡ true → painted ps k x ≡ painted ps low x
   unfolding painted steadyPieces
@@ -187,21 +182,22 @@ module _ (low n k : ℕ) (p : low ≤ k) (q : k < low + n) where
 
 -- the operations leave what the pieces say, at each place below 2 ^ 17
 unfoldable pub agrees : List Operation → List Piece → ℕ → Bool
-unfolding everywhere halved steadyFor steadyOperations steadyPieces apart inside one-side value painted
+unfolding everywhere halved steadyFor steadyOperations steadyPieces apart inside one-side through painted
 agrees os ps x =
-    everywhere (λ k. eqb (value os k x) (painted ps k x)) (λ low n. steadyOperations os low n && steadyPieces ps low n) 17 0
+    everywhere (λ k. eqb (through os k x) (painted ps k x)) (λ low n. steadyOperations os low n && steadyPieces ps low n) 17 0
 
 pub painted-told : (t : Told) (ps : List Piece) → t .plain .size ≤ 131072 → agrees (t .done) ps (t .plain .holds) ≡ true
     → memoryOf t ≡ each (painted ps) (blank (t .plain .size) (t .plain .holds))
 unfolding memoryOf agrees
 painted-told t ps fits e =
-    each-alike (value (t .done)) (painted ps) (blank (t .plain .size) (t .plain .holds))
+    applied-each (t .done) (blank (t .plain .size) (t .plain .holds)) ∙
+    each-alike (through (t .done)) (painted ps) (blank (t .plain .size) (t .plain .holds))
     (λ k l.
     let m : k < t .plain .size = omega (arith, length-blank (t .plain .size) (t .plain .holds)) in
-    rw (getD-blank (t .plain .size) (t .plain .holds) k m) (eqb-true (value (t .done) k (t .plain .holds)) (painted ps k (t .plain .holds)) (at-each test steady sound 17 0 k e (omega arith) (omega arith))))
+    rw (getD-blank (t .plain .size) (t .plain .holds) k m) (eqb-true (through (t .done) k (t .plain .holds)) (painted ps k (t .plain .holds)) (at-each test steady sound 17 0 k e (omega arith) (omega arith))))
   where
     test : ℕ → Bool
-    test k = eqb (value (t .done) k (t .plain .holds)) (painted ps k (t .plain .holds))
+    test k = eqb (through (t .done) k (t .plain .holds)) (painted ps k (t .plain .holds))
 
     steady : ℕ → ℕ → Bool
     steady low n = steadyOperations (t .done) low n && steadyPieces ps low n
@@ -210,4 +206,4 @@ painted-told t ps fits e =
     sound low n k s p q =
         let w : (steadyOperations (t .done) low n ≡ true) × (steadyPieces ps low n ≡ true) =
         and-eq-true-iff (steadyOperations (t .done) low n) (steadyPieces ps low n) .0 s in
-        rw (steady-value low n k p q (t .done) (t .plain .holds) (w .0), steady-painted low n k p q ps (t .plain .holds) (w .1))
+        rw (steady-through low n k p q (t .done) (t .plain .holds) (w .0), steady-painted low n k p q ps (t .plain .holds) (w .1))

@@ -1,17 +1,24 @@
--- A series of calls on one array and one register, each given the record that the last one returned. Assumes nothing.
+-- The same series on memories: it folds the definition of one frame. Assumes nothing.
 use Prim.Native.Nat.{ℕ}
-use mathlib.Core.List.{List, [], _∷_}
+use mathlib.Core.List.{List, [], _∷_, map}
+use mathlib.Core.Path.{_≡_}
+use lib.ListN.{length, getD, replicate}
+use Rattle.cells.specs.Each.{each, stored}
+use Rattle.cells.specs.Range.{range}
 use Rattle.sheet.specs.declared.device.Device.{Device}
-use Rattle.settings.specs.declared.Settings.{Settings}
-use Rattle.part.specs.declared.frame.Signals.{Signals}
-use Rattle.part.specs.Frame.{Result, call, lent, frame}
+use Rattle.part.specs.declared.frame.Answer.{Answer}
+use Rattle.part.specs.Frame.{Lent, Result, Meets, lent, frame}
+use Rattle.part.specs.Frame as part
+use Rattle.series.specs.Turns.{Turn, callOf}
 
--- what a call is handed, beside what stands between the calls
+-- a call with the buffer that its output goes to, and what the places behind the end of a memory hold when it is made
 pub record Step : Type 0 where
-  pub settings : Settings
-  pub input : List ℕ
-  pub signals : Signals
-  pub output : List ℕ
+  pub turn : Turn
+  pub buffer : List ℕ
+  pub behind : ℕ → ℕ
+
+abbrev pub turnsOf : List Step → List Turn
+turnsOf ss = map (λ (s : Step). s .turn) ss
 
 -- what stands between the calls: the record, the array and the register
 pub record State : Type 0 where
@@ -19,19 +26,53 @@ pub record State : Type 0 where
   pub array : List ℕ
   pub register : List ℕ
 
+-- A call is lent n bytes, from the memory's first on; where it has fewer, those behind its end follow, which are not its own.
+abbrev pub lentOf : ℕ → List ℕ → (ℕ → ℕ) → List ℕ
+lentOf n memory behind = each (λ k x. getD memory k (behind k)) (replicate n 0)
+
+-- What the call leaves of them the memory holds afterwards.
+abbrev pub returned : List ℕ → List ℕ → List ℕ
+returned after memory = each (stored (range 0 (length after)) (λ k. getD after k 0)) memory
+
+abbrev pub lentTo : Step → State → Lent
+lentTo s t =
+    lent (lentOf (s .turn .array) (t .array) (s .behind)) (lentOf (s .turn .register) (t .register) (s .behind))
+    (lentOf (s .turn .output) (s .buffer) (s .behind))
+
 -- a call
 abbrev pub resultOf : Step → State → Result
-resultOf s t = frame (call (t .device) (s .settings) (s .input) (s .signals)) (lent (t .array) (t .register) (s .output))
+resultOf s t = frame (callOf (s .turn) (t .device)) (lentTo s t)
 
 -- what it leaves
-abbrev pub left : Result → State
-left r = record { device = r .device; array = r .lent .array; register = r .lent .register }
+abbrev pub left : Result → State → State
+left r t =
+    record {
+      device = r .reply .device;
+      array = returned (r .lent .array) (t .array);
+      register = returned (r .lent .register) (t .register);
+    }
 
 -- the results of a series, in order, and what stands at its end
 unfoldable pub results : List Step → State → List Result
 results [] t = []
-results (s ∷ ss) t = resultOf s t ∷ results ss (left (resultOf s t))
+results (s ∷ ss) t = resultOf s t ∷ results ss (left (resultOf s t) t)
 
 unfoldable pub end : List Step → State → State
 end [] t = t
-end (s ∷ ss) t = end ss (left (resultOf s t))
+end (s ∷ ss) t = end ss (left (resultOf s t) t)
+
+-- A call as the code made it: its answer, and what it left of the memories that it was lent.
+pub record Made : Type 0 where
+  pub answer : Answer
+  pub lent : Lent
+
+abbrev pub madeOf : Made → Result
+madeOf c = part.resultOf (c .answer) (c .lent)
+
+-- The code ran the series and left the last state: each call meets the contract of `part::frame::frame` with the record that the call
+-- before it returned and the memories that it left.
+unfoldable pub Ran : List Step → State → List Made → State → Type 0
+Ran [] t [] u = t ≡ u
+Ran [] t (c ∷ cs) u = ⊥
+Ran (s ∷ ss) t [] u = ⊥
+Ran (s ∷ ss) t (c ∷ cs) u = Meets (callOf (s .turn) (t .device)) (lentTo s t) (c .answer) (c .lent) × Ran ss (left (madeOf c) t) cs u

@@ -7,7 +7,7 @@ use lib.ListN.{length, replicate}
 use Rattle.sheet.specs.declared.device.Device.{Device}
 use Rattle.sheet.specs.declared.device.Mode.the-variants.{Awake}
 use Rattle.settings.specs.Settings.{typical}
-use Rattle.series.specs.Worked.{Sent, Reply, Exchange, Piece, Row, canary}
+use Rattle.series.specs.Worked.{Sent, Came, Exchange, Piece, Row, canary}
 
 -- a record: BPL, BP0, WEL and the busy ticks; RSTE and the OTP-used mark clear, awake
 abbrev pub stands : Bool → Bool → Bool → ℕ → Device
@@ -34,21 +34,22 @@ abbrev pub low : List ℕ → ℕ → Sent
 low bytes elapsed = record { bytes = bytes; bits = 8 * length bytes; wp = false; elapsed = elapsed }
 
 -- what comes back from an accepted call; the byte behind the frame's last is not written
-abbrev pub came : String → ℕ → ℕ → Device → List ℕ → Reply
+abbrev pub came : String → ℕ → ℕ → Device → List ℕ → Came
 came outcome first driven d output =
-    record { refusal = 0; outcome = outcome; first = first; driven = driven; device = d; output = output ++ (canary ∷ []) }
+    record { reply = record { refusal = 0; outcome = outcome; first = first; driven = driven; device = d }; output = output ++ (canary ∷ []) }
 
 -- nothing driven: n bytes of FFh
-abbrev pub quiet : String → Device → ℕ → Reply
+abbrev pub quiet : String → Device → ℕ → Came
 quiet outcome d n = came outcome 0 0 d (replicate n 0xFF)
 
 -- from a refused one: the record as it came in, and the n bytes and one more as they were
-abbrev pub refused : ℕ → Device → ℕ → Reply
-refused number d n = record { refusal = number; outcome = "nothing"; first = 0; driven = 0; device = d; output = replicate n canary ++ (canary ∷ []) }
+abbrev pub refused : ℕ → Device → ℕ → Came
+refused number d n =
+    record { reply = record { refusal = number; outcome = "nothing"; first = 0; driven = 0; device = d }; output = replicate n canary ++ (canary ∷ []) }
 
 infixr 5 _⇒_
-abbrev pub _⇒_ : Sent → Reply → Exchange
-_⇒_ sent reply = record { sent = sent; came = reply }
+abbrev pub _⇒_ : Sent → Came → Exchange
+_⇒_ sent came = record { sent = sent; came = came }
 
 abbrev pub piece : ℕ → ℕ → ℕ → Piece
 piece from to value = record { from = from; to = to; value = value }

@@ -1,6 +1,5 @@
 -- A worked example: frames with what must come out, and what must stand in the record and the memories afterwards. Assumes nothing.
 use Prim.Native.Nat.{ℕ, _+_}
-use Prim.Native.String.{String}
 use mathlib.Core.Bool.{Bool, cond}
 use mathlib.Core.List.{List, [], _∷_, map}
 use mathlib.Core.Path.{_≡_}
@@ -9,7 +8,7 @@ use Rattle.cells.specs.Each.{Cell, each}
 use Rattle.cells.specs.Range.{range}
 use Rattle.sheet.specs.declared.device.Device.{Device}
 use Rattle.settings.specs.declared.Settings.{Settings}
-use Rattle.part.specs.Frame.{Result}
+use Rattle.part.specs.Frame.{Reply, Result}
 use Rattle.series.specs.Series.{Step, State, results, end}
 
 -- a frame as it is sent: its bytes, the bits clocked, whether WP is high, the ticks elapsed
@@ -19,18 +18,14 @@ pub record Sent : Type 0 where
   pub wp : Bool
   pub elapsed : ℕ
 
--- what comes back: the refusal's number, the outcome's word, the driven positions, the record, and what the output buffer holds
-pub record Reply : Type 0 where
-  pub refusal : ℕ
-  pub outcome : String
-  pub first : ℕ
-  pub driven : ℕ
-  pub device : Device
+-- what comes back, and what the output buffer then holds
+pub record Came : Type 0 where
+  pub reply : Reply
   pub output : List ℕ
 
 pub record Exchange : Type 0 where
   pub sent : Sent
-  pub came : Reply
+  pub came : Came
 
 -- a range of places that holds one value
 pub record Piece : Type 0 where
@@ -57,25 +52,31 @@ blank size byte = replicate size byte
 abbrev pub canary : ℕ
 canary = 0x5A
 
-abbrev pub stepOf : Settings → Exchange → Step
-stepOf settings e =
+abbrev pub stepOf : Settings → ℕ → Exchange → Step
+stepOf settings size e =
     record {
-      settings = settings;
-      input = e .sent .bytes;
-      signals = record { bits = e .sent .bits; wp = e .sent .wp; elapsed = e .sent .elapsed };
-      output = replicate (length (e .sent .bytes) + 1) canary;
+      turn =
+          record {
+            settings = settings;
+            input = e .sent .bytes;
+            signals = record { bits = e .sent .bits; wp = e .sent .wp; elapsed = e .sent .elapsed };
+            array = size;
+            register = 128;
+            output = length (e .sent .bytes) + 1;
+          };
+      buffer = replicate (length (e .sent .bytes) + 1) canary;
+      behind = λ k. canary;
     }
 
 abbrev pub stepsOf : Row → List Step
-stepsOf r = map (stepOf (r .settings)) (r .exchanges)
+stepsOf r = map (stepOf (r .settings) (r .size)) (r .exchanges)
 
 -- the register is lent with FFh in each of its 128 bytes
 abbrev pub startOf : Row → State
 startOf r = record { device = r .device; array = blank (r .size) (r .holds); register = blank 128 0xFF }
 
-abbrev pub replyOf : Result → Reply
-replyOf r =
-    record { refusal = r .refusal; outcome = r .outcome; first = r .first; driven = r .driven; device = r .device; output = r .lent .output }
+abbrev pub cameOf : Result → Came
+cameOf r = record { reply = r .reply; output = r .lent .output }
 
 -- each place of a piece holds its value; every other place holds what it held
 unfoldable pub painted : List Piece → Cell
@@ -84,7 +85,7 @@ painted (p ∷ ps) k x = cond (range (p .from) (p .to) k) (p .value) (painted ps
 
 -- the statement of a row: every reply is as it says, and so is every byte of the array and of the register
 pub record Worked (r : Row) : Type 0 where
-  pub replies : map replyOf (results (stepsOf r) (startOf r)) ≡ map (λ (e : Exchange). e .came) (r .exchanges)
+  pub replies : map cameOf (results (stepsOf r) (startOf r)) ≡ map (λ (e : Exchange). e .came) (r .exchanges)
   pub array : end (stepsOf r) (startOf r) .array ≡ each (painted (r .array)) (blank (r .size) (r .holds))
   pub register : end (stepsOf r) (startOf r) .register ≡ each (painted (r .register)) (blank 128 0xFF)
 

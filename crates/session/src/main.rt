@@ -60,7 +60,7 @@ fn turn(
     output: &mut [u8],
 ) -> Device
     requires { ⌜ (length (now input) ≤ 8192) × (length (now input) ≤ length (now output)) ⌝ }
-    ensures { λ r. ⌜ r ≡ turnOf device settings (now (input .entry)) elapsed (lent (now (array .entry)) (now (register .entry)) (now (output .entry))) .device ⌝ }
+    ensures { λ r. ⌜ r ≡ turnOf device settings (now (input .entry)) elapsed (lent (now (array .entry)) (now (register .entry)) (now (output .entry))) .reply .device ⌝ }
     ensures { λ _. ⌜ lent (now (array .exit)) (now (register .exit)) (now (output .exit)) ≡ turnOf device settings (now (input .entry)) elapsed (lent (now (array .entry)) (now (register .entry)) (now (output .entry))) .lent ⌝ }
 {
     let bytes = input.len();

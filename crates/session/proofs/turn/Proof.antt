@@ -13,7 +13,7 @@ slice-aggregate-print-line c =
     (arith, length-take (length (c .before .before .before .before .before .before .before .before .before .before .before .before .before .before .before .before .args .input .now)) (c .before .before .before .before .before .before .before .before .frame .last .1 .1 .1 .1 .1 .1 .0), c .before .before .before .before .before .before .before .before .frame .kept .1 .1 .1 .1 .1 .1 .0, c .before .before .before .before .before .before .before .before .before .before .before .before .before .before .before .before .pre .1)
 
 returns : tie.Need-returns
-returns c = (ap (λ (r : Result). r .device) (c .before .before .before .before .before .before .before .before .before .before .frame .ensures), ap (λ (r : Result). r .lent) (c .before .before .before .before .before .before .before .before .before .before .frame .ensures))
+returns c = (ap (λ (r : Result). r .reply .device) (c .before .before .before .before .before .before .before .before .before .before .frame .ensures), ap (λ (r : Result). r .lent) (c .before .before .before .before .before .before .before .before .before .before .frame .ensures))
 
 pub turn-spec : {M : Type 1} → statement M
 turn-spec =

@@ -1,8 +1,9 @@
 -- `part::frame::frame` meets its contract: a call whose number is 0 is served, any other leaves all as it was. Assumes nothing.
+use Prim.Native.Nat.{ℕ}
 use mathlib.Core.Path.{_≡_, sym, _∙_}
 use borrow.Author.Needs.{needs}
 use borrow.Author.Tests.{ne-eqb}
-use Rattle.part.specs.Frame.{Call, Lent, call, lent, numberFor, frame}
+use Rattle.part.specs.Frame.{Call, Lent, call, lent, lengthsOf, numberFor, replied, frame}
 use Rattle.part.proofs.frame.frame.Statement.{statement}
 use Rattle.part.proofs.frame.frame.Tie as tie
 
@@ -12,8 +13,11 @@ callAt a = call (a .args .device) (a .args .settings) (a .args .input .now) (a .
 abbrev lentAt : tie.Start → Lent
 lentAt a = lent (a .args .array .now) (a .args .register .now) (a .args .output .now)
 
+abbrev numberAt : tie.Start → ℕ
+numberAt a = numberFor (callAt a) (lengthsOf (callAt a) (lentAt a))
+
 -- the number that is tested is the call's
-number : (c : tie.After-number) → c .number .result ≡ numberFor (callAt (c .before .before .before .before .before .before)) (lentAt (c .before .before .before .before .before .before))
+number : (c : tie.After-number) → c .number .result ≡ numberAt (c .before .before .before .before .before .before)
 unfolding numberFor
 number c = c .number .ensures ∙ c .before .refusal-of .ensures
 
@@ -21,13 +25,13 @@ served-requires : tie.Need-served-requires
 served-requires c κs = sym (number (c .before .before .before .before)) ∙ c .before .before .before .if1 .taken
 
 returns : tie.Need-returns
-unfolding frame
+unfolding frame replied
 returns c =
     let taken = c .before .before .before .before .before .before .before .before .before .before in
     rw (← number (taken .before), taken .if1 .taken) (c .before .before .before .before .before .before .served .ensures)
 
 returns-2 : tie.Need-returns-2
-unfolding frame
+unfolding frame replied
 returns-2 c =
     let tested = c .before .before in
     rw (← number tested, ne-eqb _ _ (c .before .if1 .left), c .refused .ensures, tested .number .ensures)

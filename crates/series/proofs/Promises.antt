@@ -1,0 +1,192 @@
+-- Demand 3 holds. Assumes nothing.
+use Prim.Native.Nat.{ℕ, _<_, _≤_}
+use mathlib.Core.Bool.{Bool, true, false, cond, and-false}
+use mathlib.Core.List.{List, [], _∷_, _++_, map, map-append, append-nil}
+use mathlib.Core.Logic.{_≢_}
+use mathlib.Core.Path.{_≡_, refl, sym, ap, subst, _∙_}
+use lib.Dec.{eqb}
+use lib.ListN.{length, getD}
+use Rattle.cells.proofs.Places.{getD-each, each-same}
+use Rattle.opcodes.specs.Rows.{rowOf, rows, lookup}
+use Rattle.sheet.specs.declared.device.Device.{Device}
+use Rattle.sheet.specs.declared.judge.Action.{Action}
+use Rattle.sheet.specs.Begins.{changesArray, ready}
+use Rattle.sheet.specs.Device.{awake, unsound}
+use Rattle.sheet.proofs.Begins.{exactly-when}
+use Rattle.sheet.proofs.Leaves.{reset-still}
+use Rattle.sheet.proofs.Records.{sound-then}
+use Rattle.part.specs.Operations.{Operation, onRegister}
+use Rattle.part.specs.Frame.{Reply, Result, factsOf, timed, judgedOf, numberFor}
+use Rattle.part.specs.Frame as part
+use Rattle.part.proofs.Answers.{answerOf, some-answer}
+use Rattle.series.specs.Turns.{Turn, callOf, lengthsOf, replyTo, effectOf, replies, operations, lastRecord}
+use Rattle.series.specs.Series.{Step, State, Made, turnsOf, lentTo, resultOf, left, results, end, madeOf, Ran}
+use Rattle.series.specs.Bytes.{applied, since, bytesAt, andAll, startAt}
+use Rattle.series.specs.Promises.{Promises, effects, asRefused}
+use Rattle.series.proofs.Lending.{lent-all, returned-all}
+use Rattle.series.proofs.Applied.{applied-joined, applied-each, through, since-the-last-erase, programs-exchanged, operation-twice}
+use Rattle.series.proofs.Turns.{operations-joined, refused-reply, refused-effect, sound-series, each-works}
+use Rattle.series.proofs.Steps.{results-joined, end-joined, reply-is, array-is, register-is, refused-result, refused-left}
+
+abbrev replyIn : Result → Reply
+replyIn r = r .reply
+
+as-carried-out : (ss : List Step) (t : State) → end ss t .array ≡ applied (effects ss t) (t .array)
+unfolding end operations applied
+as-carried-out [] t = refl
+as-carried-out (s ∷ ss) t =
+    as-carried-out ss (left (resultOf s t) t) ∙
+    (rw (reply-is s t, array-is s t) refl ∙
+    sym (applied-joined (effectOf (s .turn) (t .device)) (operations (turnsOf ss) (replyTo (s .turn) (t .device) .device)) (t .array)))
+
+as-the-code-does : (ss : List Step) (t u : State) (cs : List Made) → Ran ss t cs u → (map madeOf cs ≡ results ss t) × (u ≡ end ss t)
+unfolding Ran results end
+as-the-code-does [] t u [] r = (refl, sym r)
+as-the-code-does [] t u (c ∷ cs) r = absurd r
+as-the-code-does (s ∷ ss) t u [] r = absurd r
+as-the-code-does (s ∷ ss) t u (c ∷ cs) r =
+    let rest = as-the-code-does ss (left (madeOf c) t) u cs (r .1) in (
+      ap (λ (x : Result). x ∷ map madeOf cs) (r .0) ∙
+          ap (λ (rs : List Result). resultOf s t ∷ rs) (rest .0 ∙ ap (λ (x : Result). results ss (left x t)) (r .0)),
+      rest .1 ∙ ap (λ (x : Result). end ss (left x t)) (r .0),
+    )
+
+-- a run of the code
+made : List Step → State → List Made
+made [] t = []
+made (s ∷ ss) t =
+    record { answer = answerOf (callOf (s .turn) (t .device)) (part.lengthsOf (callOf (s .turn) (t .device)) (lentTo s t)); lent = resultOf s t .lent } ∷
+    made ss (left (resultOf s t) t)
+
+runs : (ss : List Step) (t : State) → Ran ss t (made ss t) (end ss t)
+unfolding Ran made end
+runs [] t = refl
+runs (s ∷ ss) t =
+    let answer = some-answer (callOf (s .turn) (t .device)) (lentTo s t) in
+    let rest = left (resultOf s t) t in
+    (answer, subst (λ (r : Result). Ran ss (left r t) (made ss rest) (end ss rest)) (sym answer) (runs ss rest))
+
+as-computed : (ss : List Step) (t : State)
+    → (map replyIn (results ss t) ≡ replies (turnsOf ss) (t .device)) × (end ss t .device ≡ lastRecord (turnsOf ss) (t .device))
+unfolding results end replies lastRecord
+as-computed [] t = (refl, refl)
+as-computed (s ∷ ss) t =
+    let rest = as-computed ss (left (resultOf s t) t) in (
+      ap (λ (rs : List Reply). resultOf s t .reply ∷ rs) (rest .0) ∙
+          ap (λ (r : Reply). r ∷ replies (turnsOf ss) (r .device)) (reply-is s t),
+      rest .1 ∙ ap (λ (r : Reply). lastRecord (turnsOf ss) (r .device)) (reply-is s t),
+    )
+
+never-from-stored-bytes : (ss also : List Step) (t u : State) → turnsOf ss ≡ turnsOf also → t .device ≡ u .device
+    → (map replyIn (results ss t) ≡ map replyIn (results also u)) × (end ss t .device ≡ end also u .device) × (effects ss t ≡ effects also u)
+never-from-stored-bytes ss also t u e d = (
+  as-computed ss t .0 ∙ (rw (e, d) refl ∙ sym (as-computed also u .0)),
+  as-computed ss t .1 ∙ (rw (e, d) refl ∙ sym (as-computed also u .1)),
+  rw (e, d) refl,
+)
+
+and-since-the-last-erase : (ss : List Step) (t : State) (k : ℕ) → k < length (t .array)
+    → getD (end ss t .array) k 0 ≡ andAll (startAt (effects ss t) k (getD (t .array) k 0)) (bytesAt (since (effects ss t) k) k)
+and-since-the-last-erase ss t k l =
+    ap (λ (xs : List ℕ). getD xs k 0) (as-carried-out ss t ∙ applied-each (effects ss t) (t .array)) ∙
+    (getD-each (through (effects ss t)) (t .array) k 0 l ∙ since-the-last-erase (effects ss t) k (getD (t .array) k 0))
+
+-- the operations of two lists of steps joined
+pub effects-joined : (ss also : List Step) (t : State) → effects (ss ++ also) t ≡ effects ss t ++ effects also (end ss t)
+effects-joined ss also t =
+    ap (λ (ts : List Turn). operations ts (t .device)) (map-append (λ (s : Step). s .turn) ss also) ∙
+    (operations-joined (turnsOf ss) (turnsOf also) (t .device) ∙
+    ap (λ (d : Device). effects ss t ++ operations (turnsOf also) d) (sym (as-computed ss t .1)))
+
+-- A refused call in the middle of a series.
+module _ (before after : List Step) (s : Step) (t : State) (n : replyTo (s .turn) (end before t .device) .refusal ≢ 0) where
+  abbrev u : State
+  u = end before t
+
+  no-effect : effects (s ∷ after) u ≡ effects after u
+  unfolding operations
+  no-effect =
+      ap (λ (os : List Operation). os ++ operations (turnsOf after) (replyTo (s .turn) (u .device) .device)) (refused-effect (s .turn) (u .device) n) ∙
+      ap (λ (r : Reply). operations (turnsOf after) (r .device)) (refused-reply (s .turn) (u .device) n)
+
+  same-operations : effects (before ++ s ∷ after) t ≡ effects (before ++ after) t
+  same-operations =
+      effects-joined before (s ∷ after) t ∙ (ap (λ (os : List Operation). effects before t ++ os) no-effect ∙ sym (effects-joined before after t))
+
+  same-end : end (before ++ s ∷ after) t ≡ end (before ++ after) t
+  unfolding end
+  same-end = end-joined before (s ∷ after) t ∙ (ap (end after) (refused-left s u n) ∙ sym (end-joined before after t))
+
+  own-result : results (before ++ s ∷ after) t ≡ results before t ++ asRefused s u ∷ results after u
+  unfolding results
+  own-result =
+      results-joined before (s ∷ after) t ∙
+      ap (λ (rs : List Result). results before t ++ rs)
+      (ap (λ (r : Result). r ∷ results after (left (resultOf s u) u)) (refused-result s u n) ∙
+      ap (λ (v : State). asRefused s u ∷ results after v) (refused-left s u n))
+
+-- A call whose opcode is that of a reset.
+module _ (s : Step) (t : State) (code : getD (s .turn .input) 0 0 ≡ 0xF0) where
+  abbrev c : part.Call
+  c = callOf (s .turn) (t .device)
+
+  still : judgedOf c .action ≡ Action.Still
+  unfolding judgedOf rowOf lookup rows
+  still = reset-still (timed c) (s .turn .settings) (factsOf c) (rw code)
+
+  not-ready : ready (timed c) (factsOf c) ≡ false
+  unfolding judgedOf
+  not-ready = sym (exactly-when (timed c) (s .turn .settings) (factsOf c)) ∙ ap changesArray still
+
+  reset-effect : effectOf (s .turn) (t .device) ≡ []
+  reset-effect = rw (not-ready, and-false (eqb (numberFor c (lengthsOf (s .turn))) 0))
+
+  reset-register : left (resultOf s t) t .register ≡ t .register
+  unfolding applied
+  reset-register = register-is s t ∙ by (eqb (numberFor c (lengthsOf (s .turn))) 0)
+    where
+      by : (b : Bool) → applied (cond b (onRegister (judgedOf c .action) (s .turn .input) ∷ []) []) (t .register) ≡ t .register
+      by true = rw still (sym (each-same (t .register)))
+      by false = refl
+
+reset-takes-nothing-back : (before : List Step) (s : Step) (t : State) → getD (s .turn .input) 0 0 ≡ 0xF0
+    → (effects (before ++ s ∷ []) t ≡ effects before t) × (end (before ++ s ∷ []) t .array ≡ end before t .array)
+    × (end (before ++ s ∷ []) t .register ≡ end before t .register)
+unfolding operations end applied
+reset-takes-nothing-back before s t code =
+    let u = end before t in (
+      effects-joined before (s ∷ []) t ∙
+          (ap (λ (os : List Operation). effects before t ++ (os ++ [])) (reset-effect s u code) ∙ append-nil (effects before t)),
+      ap (λ (v : State). v .array) (end-joined before (s ∷ []) t) ∙ (array-is s u ∙ ap (λ (os : List Operation). applied os (u .array)) (reset-effect s u code)),
+      ap (λ (v : State). v .register) (end-joined before (s ∷ []) t) ∙ reset-register s u code,
+    )
+
+sound : (ts : List Turn) (d : Device) → unsound d ≡ false
+    → (lastRecord ts d .busy ≤ 60000000) × (awake (lastRecord ts d .mode) ≡ false → lastRecord ts d .busy ≡ 0)
+sound ts d u = let s = sound-then (lastRecord ts d) (sound-series ts d u) in (s .short, s .idle)
+
+pub promises : Promises
+promises =
+    record {
+      lent-whole =
+          λ s t r a b e f. (
+            lent-all (s .turn .array) (t .array) (s .behind) a,
+            lent-all (s .turn .register) (t .register) (s .behind) b,
+            returned-all (r .lent .array) (t .array) e,
+            returned-all (r .lent .register) (t .register) f,
+          );
+      as-the-code-does = as-the-code-does;
+      can-be-run = λ ss t. (made ss t, runs ss t);
+      as-computed = as-computed;
+      never-from-stored-bytes = never-from-stored-bytes;
+      each-works = each-works;
+      as-carried-out = as-carried-out;
+      and-since-the-last-erase = and-since-the-last-erase;
+      change-places = programs-exchanged;
+      twice-is-once = operation-twice;
+      refused-changes-nothing =
+          λ before after s t n.
+          (same-operations before after s t n, same-end before after s t n, results-joined before after t, own-result before after s t n);
+      reset-takes-nothing-back = reset-takes-nothing-back;
+      stays-sound = sound;
+    }

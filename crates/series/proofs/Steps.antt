@@ -1,0 +1,120 @@
+-- The laws of a series on memories: one step, two lists joined, and that a step on memories is the step that is computed from its turn.
+-- Assumes nothing.
+use Prim.Native.Nat.{ℕ, _≤_}
+use mathlib.Core.Bool.{Bool, true, false, cond}
+use mathlib.Core.List.{List, [], _∷_, _++_}
+use mathlib.Core.Logic.{_≢_}
+use mathlib.Core.Path.{_≡_, refl, ap, _∙_}
+use native.Mathlib.Omega.{arith}
+use borrow.Author.Tests.{eqb-true, ne-eqb}
+use lib.Dec.{eqb}
+use lib.ListN.{length}
+use Rattle.cells.specs.Each.{each}
+use Rattle.cells.proofs.Places.{length-each}
+use Rattle.opcodes.specs.Rows.{rowOf}
+use Rattle.sheet.specs.Begins.{asksFor}
+use Rattle.sheet.specs.declared.device.Device.{Device}
+use Rattle.part.specs.Operations.{Operation, cellOf, onRegister}
+use Rattle.part.specs.Frame.{Call, Lent, Result, factsOf, judgedOf, numberFor, replied, frame}
+use Rattle.part.specs.Frame as part
+use Rattle.part.specs.Effect.{takesEffect, operationOf}
+use Rattle.part.proofs.Blocks.{operation-inside, once-inside}
+use Rattle.part.proofs.Effects.{only-then, then-always}
+use Rattle.series.specs.Turns.{Turn, callOf, lengthsOf, replyTo, effectOf}
+use Rattle.series.specs.Series.{Step, State, returned, lentTo, resultOf, left, results, end}
+use Rattle.series.specs.Bytes.{applied}
+use Rattle.series.specs.Promises.{asRefused}
+use Rattle.series.proofs.Lending.{length-lent, returned-each, returned-same}
+use Rattle.series.proofs.Turns.{refusal-is, refused-reply, accepted-turn, effect-accepted}
+
+-- one step
+pub one-result : (s : Step) (ss : List Step) (t : State) → results (s ∷ ss) t ≡ resultOf s t ∷ results ss (left (resultOf s t) t)
+unfolding results
+one-result s ss t = refl
+
+pub one-end : (s : Step) (ss : List Step) (t : State) → end (s ∷ ss) t ≡ end ss (left (resultOf s t) t)
+unfolding end
+one-end s ss t = refl
+
+-- two lists joined: the second one starts with what the first one left
+pub results-joined : (ss also : List Step) (t : State) → results (ss ++ also) t ≡ results ss t ++ results also (end ss t)
+unfolding results end
+results-joined [] also t = refl
+results-joined (s ∷ ss) also t = ap (λ (rs : List Result). resultOf s t ∷ rs) (results-joined ss also (left (resultOf s t) t))
+
+pub end-joined : (ss also : List Step) (t : State) → end (ss ++ also) t ≡ end also (end ss t)
+unfolding end
+end-joined [] also t = refl
+end-joined (s ∷ ss) also t = end-joined ss also (left (resultOf s t) t)
+
+-- the operation on the register, if the call is accepted
+abbrev pub onceOf : Turn → Device → List Operation
+onceOf t d = cond (eqb (numberFor (callOf t d) (lengthsOf t)) 0) (onRegister (judgedOf (callOf t d) .action) (t .input) ∷ []) []
+
+-- lengths stay
+pub lengths-kept : (ss : List Step) (t : State) → (length (end ss t .array) ≡ length (t .array)) × (length (end ss t .register) ≡ length (t .register))
+unfolding end
+lengths-kept [] t = (refl, refl)
+lengths-kept (s ∷ ss) t =
+    let rest = lengths-kept ss (left (resultOf s t) t) in (rest .0 ∙ length-each _ (t .array), rest .1 ∙ length-each _ (t .register))
+
+module _ (s : Step) (t : State) where
+  abbrev c : Call
+  c = callOf (s .turn) (t .device)
+
+  abbrev m : Lent
+  m = lentTo s t
+
+  pub same-lengths : part.lengthsOf c m ≡ lengthsOf (s .turn)
+  same-lengths =
+      rw
+      (length-lent (s .turn .array) (t .array) (s .behind), length-lent (s .turn .register) (t .register) (s .behind), length-lent (s .turn .output) (s .buffer) (s .behind))
+
+  -- what comes back is what is computed
+  pub reply-is : resultOf s t .reply ≡ replyTo (s .turn) (t .device)
+  unfolding frame
+  reply-is = ap (replied c) same-lengths
+
+  -- the array is left with the operation carried out, if one takes effect
+  pub array-is : left (resultOf s t) t .array ≡ applied (effectOf (s .turn) (t .device)) (t .array)
+  unfolding applied
+  array-is = by (takesEffect c (lengthsOf (s .turn))) refl
+    where
+      inside : takesEffect c (lengthsOf (s .turn)) ≡ true → (k x : ℕ) → s .turn .array ≤ k → cellOf (operationOf c (lengthsOf (s .turn))) k x ≡ x
+      inside e =
+          operation-inside (asksFor (rowOf (factsOf c .code) .command)) (s .turn .array) (s .turn .input)
+          (accepted-turn (s .turn) (t .device) (effect-accepted (s .turn) (t .device) e) .array)
+
+      by : (b : Bool) → takesEffect c (lengthsOf (s .turn)) ≡ b
+          → returned (frame c m .lent .array) (t .array) ≡ applied (cond b (operationOf c (lengthsOf (s .turn)) ∷ []) []) (t .array)
+      by true e =
+          ap (λ (after : List ℕ). returned after (t .array))
+          (then-always c m (ap (takesEffect c) same-lengths ∙ e) .0 ∙ ap (λ (o : Operation). each (cellOf o) (m .array)) (ap (operationOf c) same-lengths)) ∙
+          returned-each (cellOf (operationOf c (lengthsOf (s .turn)))) (s .turn .array) (t .array) (s .behind) (inside e)
+      by false e =
+          ap (λ (after : List ℕ). returned after (t .array)) (only-then c m (ap (takesEffect c) same-lengths ∙ e)) ∙ returned-same (s .turn .array) (t .array) (s .behind)
+
+  -- and the register likewise
+  pub register-is : left (resultOf s t) t .register ≡ applied (onceOf (s .turn) (t .device)) (t .register)
+  unfolding frame applied
+  register-is = rw same-lengths (by (eqb (numberFor c (lengthsOf (s .turn))) 0) (eqb-true (numberFor c (lengthsOf (s .turn))) 0))
+    where
+      by : (b : Bool) → (b ≡ true → numberFor c (lengthsOf (s .turn)) ≡ 0)
+          → returned (cond b (part.lentAfter c m) m .register) (t .register)
+          ≡ applied (cond b (onRegister (judgedOf c .action) (s .turn .input) ∷ []) []) (t .register)
+      by true z =
+          let long : s .turn .register ≡ 128 = accepted-turn (s .turn) (t .device) (refusal-is (s .turn) (t .device) ∙ z refl) .register in
+          returned-each (cellOf (onRegister (judgedOf c .action) (s .turn .input))) (s .turn .register) (t .register) (s .behind)
+          (λ k x l. once-inside (judgedOf c .action) (s .turn .input) k x (omega arith))
+      by false z = returned-same (s .turn .register) (t .register) (s .behind)
+
+  -- a refused step answers with its number and leaves all as it was
+  pub refused-result : replyTo (s .turn) (t .device) .refusal ≢ 0 → resultOf s t ≡ asRefused s t
+  unfolding frame
+  refused-result n =
+      rw (same-lengths, ne-eqb (numberFor c (lengthsOf (s .turn))) 0 (λ e. n (refusal-is (s .turn) (t .device) ∙ e)))
+      (ap (λ (r : part.Reply). record { reply = r; lent = m }) (refused-reply (s .turn) (t .device) n))
+
+  pub refused-left : replyTo (s .turn) (t .device) .refusal ≢ 0 → left (resultOf s t) t ≡ t
+  refused-left n =
+      rw (refused-result n) (rw (returned-same (s .turn .array) (t .array) (s .behind), returned-same (s .turn .register) (t .register) (s .behind)))

@@ -1,0 +1,155 @@
+-- The laws of a series as it is computed from its turns: one step, two lists joined, a refused turn, and the records that it returns.
+-- Assumes nothing.
+use Prim.Native.Nat.{ℕ}
+use mathlib.Core.Bool.{Bool, true, false, false≢true, cond, not, _||_, and-eq-true-iff}
+use mathlib.Core.List.{List, [], _∷_, _++_, append-assoc}
+use mathlib.Core.Logic.{_≢_}
+use mathlib.Core.Path.{_≡_, refl, sym, ap, _∙_}
+use native.Mathlib.Decide.{ℕ-discrete}
+use borrow.Author.Tests.{eqb-true, ne-eqb}
+use lib.Dec.{ltb, eqb}
+use Rattle.opcodes.specs.declared.Command.{Command}
+use Rattle.opcodes.specs.declared.Command.the-variants.{Unlisted, Reads, Orders, Works}
+use Rattle.opcodes.specs.declared.Work.{Work}
+use Rattle.opcodes.specs.Rows.{rowOf}
+use Rattle.sheet.specs.declared.device.Device.{Device}
+use Rattle.sheet.specs.declared.judge.Facts.{Facts}
+use Rattle.sheet.specs.Begins.{asksFor, meansArray, ready}
+use Rattle.sheet.specs.Device.{awake, isBusy, unsound}
+use Rattle.sheet.proofs.Leaves.{stays-sound}
+use Rattle.sheet.proofs.Records.{passed-sound}
+use Rattle.lent.proofs.Lengths.{Accepted, accepted}
+use Rattle.part.specs.Operations.{Operation, onArray}
+use Rattle.part.specs.Frame.{Reply, numberFor, timed, factsOf, judgedOf, answered, refused, replied}
+use Rattle.part.specs.Effect.{takesEffect, operationOf}
+use Rattle.series.specs.Turns.{Turn, callOf, lengthsOf, replyTo, effectOf, replies, operations, lastRecord}
+use Rattle.series.specs.Bytes.{isProgram, isErase, allWork}
+
+-- one step
+pub one-reply : (t : Turn) (ts : List Turn) (d : Device) → replies (t ∷ ts) d ≡ replyTo t d ∷ replies ts (replyTo t d .device)
+unfolding replies
+one-reply t ts d = refl
+
+pub one-operation : (t : Turn) (ts : List Turn) (d : Device) → operations (t ∷ ts) d ≡ effectOf t d ++ operations ts (replyTo t d .device)
+unfolding operations
+one-operation t ts d = refl
+
+pub one-record : (t : Turn) (ts : List Turn) (d : Device) → lastRecord (t ∷ ts) d ≡ lastRecord ts (replyTo t d .device)
+unfolding lastRecord
+one-record t ts d = refl
+
+-- two lists joined: the second one starts with the record that the first one left
+pub replies-joined : (ts us : List Turn) (d : Device) → replies (ts ++ us) d ≡ replies ts d ++ replies us (lastRecord ts d)
+unfolding replies lastRecord
+replies-joined [] us d = refl
+replies-joined (t ∷ ts) us d = ap (λ (rs : List Reply). replyTo t d ∷ rs) (replies-joined ts us (replyTo t d .device))
+
+pub operations-joined : (ts us : List Turn) (d : Device) → operations (ts ++ us) d ≡ operations ts d ++ operations us (lastRecord ts d)
+unfolding operations lastRecord
+operations-joined [] us d = refl
+operations-joined (t ∷ ts) us d =
+    ap (λ (os : List Operation). effectOf t d ++ os) (operations-joined ts us (replyTo t d .device)) ∙
+    sym (append-assoc (effectOf t d) (operations ts (replyTo t d .device)) (operations us (lastRecord ts (replyTo t d .device))))
+
+pub record-joined : (ts us : List Turn) (d : Device) → lastRecord (ts ++ us) d ≡ lastRecord us (lastRecord ts d)
+unfolding lastRecord
+record-joined [] us d = refl
+record-joined (t ∷ ts) us d = record-joined ts us (replyTo t d .device)
+
+-- what an opcode for the array asks for is a program or an erase
+asked-works : (c : Command) (size : ℕ) (input : List ℕ) → meansArray c ≡ true → (isProgram (onArray (asksFor c) size input) || isErase (onArray (asksFor c) size input)) ≡ true
+asked-works Unlisted size input e = absurd (false≢true e)
+asked-works (Reads source) size input e = absurd (false≢true e)
+asked-works (Orders order) size input e = absurd (false≢true e)
+asked-works (Works Work.Program) size input e = refl
+asked-works (Works (Work.Erase region)) size input e = refl
+asked-works (Works Work.Otp) size input e = absurd (false≢true e)
+asked-works (Works Work.WriteStatus) size input e = absurd (false≢true e)
+asked-works (Works Work.WriteStatusTwo) size input e = absurd (false≢true e)
+
+module _ (t : Turn) (d : Device) where
+  abbrev number : ℕ
+  number = numberFor (callOf t d) (lengthsOf t)
+
+  -- what comes back carries the number of the refusal
+  pub refusal-is : replyTo t d .refusal ≡ number
+  unfolding replied
+  refusal-is = by (eqb number 0) (eqb-true number 0)
+    where
+      by : (b : Bool) → (b ≡ true → number ≡ 0) → cond b (answered (judgedOf (callOf t d))) (refused number d) .refusal ≡ number
+      by true z = sym (z refl)
+      by false z = refl
+
+  untrue : replyTo t d .refusal ≢ 0 → eqb number 0 ≡ false
+  untrue n = ne-eqb number 0 (λ e. n (refusal-is ∙ e))
+
+  -- a refused turn hands the record back as it came, and no operation takes effect
+  pub refused-reply : replyTo t d .refusal ≢ 0 → replyTo t d ≡ refused (replyTo t d .refusal) d
+  unfolding replied
+  refused-reply n = rw (refusal-is, untrue n)
+
+  pub refused-effect : replyTo t d .refusal ≢ 0 → effectOf t d ≡ []
+  refused-effect n = rw (untrue n)
+
+  -- an accepted one is judged, and what acceptance tells is known
+  pub accepted-reply : replyTo t d .refusal ≡ 0 → replyTo t d ≡ answered (judgedOf (callOf t d))
+  unfolding replied
+  accepted-reply e = rw (sym refusal-is ∙ e)
+
+  pub accepted-turn : replyTo t d .refusal ≡ 0 → Accepted d (t .settings) (t .signals .bits) (lengthsOf t)
+  unfolding numberFor
+  accepted-turn e = accepted d (t .settings) (t .signals .bits) (lengthsOf t) (sym refusal-is ∙ e)
+
+  -- an operation takes effect in an accepted turn only
+  pub effect-accepted : takesEffect (callOf t d) (lengthsOf t) ≡ true → replyTo t d .refusal ≡ 0
+  effect-accepted e = refusal-is ∙ eqb-true number 0 (and-eq-true-iff (eqb number 0) (ready (timed (callOf t d)) (factsOf (callOf t d))) .0 e .0)
+
+  -- and it is a program or an erase
+  pub effect-works : allWork (effectOf t d) ≡ true
+  unfolding allWork
+  effect-works = by (takesEffect (callOf t d) (lengthsOf t)) refl
+    where
+      f : Facts
+      f = factsOf (callOf t d)
+
+      means : takesEffect (callOf t d) (lengthsOf t) ≡ true → meansArray (rowOf (f .code) .command) ≡ true
+      means e =
+          let readied = and-eq-true-iff (eqb number 0) _ .0 e .1 in
+          let idle = and-eq-true-iff (awake (timed (callOf t d) .mode)) _ .0 readied .1 in
+          let whole = and-eq-true-iff (not (isBusy (timed (callOf t d)))) _ .0 idle .1 in
+          let opcode = and-eq-true-iff (not (ltb (f .bits) 8)) _ .0 whole .1 in
+          and-eq-true-iff (meansArray (rowOf (f .code) .command)) _ .0 opcode .0
+
+      by : (b : Bool) → takesEffect (callOf t d) (lengthsOf t) ≡ b → allWork (cond b (operationOf (callOf t d) (lengthsOf t) ∷ []) []) ≡ true
+      by true e = rw (asked-works (rowOf (f .code) .command) (t .array) (t .input) (means e))
+      by false e = refl
+
+  -- a turn returns a record that is accepted, if it was given one
+  pub sound-turn : unsound d ≡ false → unsound (replyTo t d .device) ≡ false
+  unfolding judgedOf
+  sound-turn u = by (ℕ-discrete (replyTo t d .refusal) 0)
+    where
+      judging : Accepted d (t .settings) (t .signals .bits) (lengthsOf t) → unsound (judgedOf (callOf t d) .device) ≡ false
+      judging a = stays-sound (timed (callOf t d)) (t .settings) (factsOf (callOf t d)) (passed-sound d (t .signals .elapsed) u) (a .fair)
+
+      by : Dec (replyTo t d .refusal ≡ 0) → unsound (replyTo t d .device) ≡ false
+      by (yes e) = rw (accepted-reply e) (judging (accepted-turn e))
+      by (no n) = rw (refused-reply n) u
+
+-- and so does a series
+pub sound-series : (ts : List Turn) (d : Device) → unsound d ≡ false → unsound (lastRecord ts d) ≡ false
+unfolding lastRecord
+sound-series [] d u = u
+sound-series (t ∷ ts) d u = sound-series ts (replyTo t d .device) (sound-turn t d u)
+
+works-joined : (os ps : List Operation) → allWork os ≡ true → allWork ps ≡ true → allWork (os ++ ps) ≡ true
+unfolding allWork
+works-joined [] ps e f = f
+works-joined (o ∷ os) ps e f =
+    let w = and-eq-true-iff (isProgram o || isErase o) (allWork os) .0 e in
+    rw (w .0) (works-joined os ps (w .1) f)
+
+pub each-works : (ts : List Turn) (d : Device) → allWork (operations ts d) ≡ true
+unfolding operations allWork
+each-works [] d = refl
+each-works (t ∷ ts) d = works-joined (effectOf t d) (operations ts (replyTo t d .device)) (effect-works t d) (each-works ts (replyTo t d .device))

@@ -1,0 +1,71 @@
+-- What a list of operations makes of an array, and of the byte at one of its places. Assumes nothing.
+use Prim.Native.Nat.{ℕ, _-_}
+use mathlib.Core.Bool.{Bool, true, false, cond, not, _&&_, _||_}
+use mathlib.Core.List.{List, [], _∷_, _++_}
+use lib.Bits.{bitAnd}
+use lib.ListN.{length}
+use Rattle.cells.specs.Each.{each}
+use Rattle.cells.specs.Page.{aimedAt, last}
+use Rattle.cells.specs.Range.{range}
+use Rattle.part.specs.Operations.{Operation, none, program, erase, cellOf}
+
+-- the operations carried out, one after the other
+unfoldable pub applied : List Operation → List ℕ → List ℕ
+applied [] xs = xs
+applied (o ∷ os) xs = applied os (each (cellOf o) xs)
+
+-- an erase that covers the place
+abbrev pub erases : Operation → ℕ → Bool
+erases none k = false
+erases (program size page start sent) k = false
+erases (erase from to) k = range from to k
+
+-- one of the operations is
+unfoldable pub erasedIn : List Operation → ℕ → Bool
+erasedIn [] k = false
+erasedIn (o ∷ os) k = erases o k || erasedIn os k
+
+-- the operations since the last erase that covers the place; all of them, if none does
+unfoldable pub since : List Operation → ℕ → List Operation
+since [] k = []
+since (o ∷ os) k = cond (erasedIn (o ∷ os) k) (since os k) (o ∷ os)
+
+-- the byte that an operation programs at the place: the last one of its data that aims there; none, where no data byte aims
+abbrev pub byteOf : Operation → ℕ → List ℕ
+byteOf none k = []
+byteOf (program size page start sent) k = cond (aimedAt size page start sent k) (last size start sent (length sent) (k - page) 0xFF ∷ []) []
+byteOf (erase from to) k = []
+
+-- all bytes programmed at the place, in order
+unfoldable pub bytesAt : List Operation → ℕ → List ℕ
+bytesAt [] k = []
+bytesAt (o ∷ os) k = byteOf o k ++ bytesAt os k
+
+-- the AND of a byte and of all in a list
+unfoldable pub andAll : ℕ → List ℕ → ℕ
+andAll x [] = x
+andAll x (b ∷ bs) = andAll (bitAnd x b) bs
+
+-- what the place starts from: FFh if an erase covered it, else its first content
+abbrev pub startAt : List Operation → ℕ → ℕ → ℕ
+startAt os k x = cond (erasedIn os k) 0xFF x
+
+abbrev pub isProgram : Operation → Bool
+isProgram none = false
+isProgram (program size page start sent) = true
+isProgram (erase from to) = false
+
+abbrev pub isErase : Operation → Bool
+isErase none = false
+isErase (program size page start sent) = false
+isErase (erase from to) = true
+
+-- no erase is among the operations
+unfoldable pub eraseless : List Operation → Bool
+eraseless [] = true
+eraseless (o ∷ os) = not (isErase o) && eraseless os
+
+-- each of them is a program or an erase
+unfoldable pub allWork : List Operation → Bool
+allWork [] = true
+allWork (o ∷ os) = (isProgram o || isErase o) && allWork os

@@ -1,0 +1,66 @@
+-- Demand 3, sentence by sentence: what holds of any series of calls, refused calls and resets among them. Assumes nothing.
+use Prim.Native.Nat.{ℕ, _<_, _≤_}
+use mathlib.Core.Bool.{true, false}
+use mathlib.Core.List.{List, [], _∷_, _++_, map}
+use mathlib.Core.Logic.{_≢_}
+use mathlib.Core.Path.{_≡_}
+use lib.ListN.{length, getD}
+use Rattle.sheet.specs.declared.device.Device.{Device}
+use Rattle.sheet.specs.Device.{awake, unsound}
+use Rattle.part.specs.Operations.{Operation}
+use Rattle.part.specs.Frame.{Result, refused}
+use Rattle.series.specs.Turns.{Turn, replyTo, replies, operations, lastRecord}
+use Rattle.series.specs.Series.{Step, State, Made, turnsOf, lentTo, left, results, end, madeOf, Ran}
+use Rattle.series.specs.Bytes.{applied, since, bytesAt, andAll, startAt, isProgram, eraseless, allWork}
+
+-- the operations that took effect in a series of steps
+abbrev pub effects : List Step → State → List Operation
+effects ss t = operations (turnsOf ss) (t .device)
+
+-- the result of a refused call: its number, with the record and the lent bytes as they were
+abbrev pub asRefused : Step → State → Result
+asRefused s t = record { reply = refused (replyTo (s .turn) (t .device) .refusal) (t .device); lent = lentTo s t }
+
+pub record Promises : Type 0 where
+  -- A call that is lent array and register whole is lent what they hold, and they hold afterwards what it left.
+  pub lent-whole : (s : Step) (t : State) (r : Result) → s .turn .array ≡ length (t .array) → s .turn .register ≡ length (t .register)
+      → length (r .lent .array) ≡ length (t .array) → length (r .lent .register) ≡ length (t .register)
+      → (lentTo s t .array ≡ t .array) × (lentTo s t .register ≡ t .register) × (left r t .array ≡ r .lent .array) × (left r t .register ≡ r .lent .register)
+  -- What the code returns and leaves is what the series says, call by call, and so are its last record, array and register;
+  pub as-the-code-does : (ss : List Step) (t u : State) (cs : List Made) → Ran ss t cs u → (map madeOf cs ≡ results ss t) × (u ≡ end ss t)
+  -- and there is such a run of each series.
+  pub can-be-run : (ss : List Step) (t : State) → (cs : List Made) × Ran ss t cs (end ss t)
+  -- Never from stored bytes: the answers and the last record are computed from the turns and the first record alone,
+  pub as-computed : (ss : List Step) (t : State)
+      → (map (λ (r : Result). r .reply) (results ss t) ≡ replies (turnsOf ss) (t .device)) × (end ss t .device ≡ lastRecord (turnsOf ss) (t .device))
+  -- so two series with the same turns and first record answer alike and carry out the same operations, whatever their memories hold.
+  pub never-from-stored-bytes : (ss also : List Step) (t u : State) → turnsOf ss ≡ turnsOf also → t .device ≡ u .device
+      → (map (λ (r : Result). r .reply) (results ss t) ≡ map (λ (r : Result). r .reply) (results also u)) × (end ss t .device ≡ end also u .device)
+      × (effects ss t ≡ effects also u)
+  -- What takes effect is a program or an erase,
+  pub each-works : (ts : List Turn) (d : Device) → allWork (operations ts d) ≡ true
+  -- and the array after the series is the array before it with the operations that took effect carried out in order.
+  pub as-carried-out : (ss : List Step) (t : State) → end ss t .array ≡ applied (effects ss t) (t .array)
+  -- Each byte afterwards is the AND of all bytes programmed at it since the last erase that covered it, starting from FFh, or from its
+  -- first content if none covered it.
+  pub and-since-the-last-erase : (ss : List Step) (t : State) (k : ℕ) → k < length (t .array)
+      → getD (end ss t .array) k 0 ≡ andAll (startAt (effects ss t) k (getD (t .array) k 0)) (bytesAt (since (effects ss t) k) k)
+  -- Two programs with no erase between them may change places.
+  pub change-places : (before between after : List Operation) (p q : Operation) (xs : List ℕ)
+      → isProgram p ≡ true → isProgram q ≡ true → eraseless between ≡ true
+      → applied (before ++ p ∷ between ++ q ∷ after) xs ≡ applied (before ++ q ∷ between ++ p ∷ after) xs
+  -- An operation carried out twice in a row does what it does once.
+  pub twice-is-once : (before after : List Operation) (o : Operation) (xs : List ℕ) → applied (before ++ o ∷ o ∷ after) xs ≡ applied (before ++ o ∷ after) xs
+  -- A refused call changes nothing but its own answer: without it the series has the same operations, the same end, and the same
+  -- results before and after it.
+  pub refused-changes-nothing : (before after : List Step) (s : Step) (t : State) → replyTo (s .turn) (end before t .device) .refusal ≢ 0
+      → (effects (before ++ s ∷ after) t ≡ effects (before ++ after) t) × (end (before ++ s ∷ after) t ≡ end (before ++ after) t)
+      × (results (before ++ after) t ≡ results before t ++ results after (end before t))
+      × (results (before ++ s ∷ after) t ≡ results before t ++ asRefused s (end before t) ∷ results after (end before t))
+  -- A reset, carried out or not, takes no change back: the operations before it stand, and array and register stay.
+  pub reset-takes-nothing-back : (before : List Step) (s : Step) (t : State) → getD (s .turn .input) 0 0 ≡ 0xF0
+      → (effects (before ++ s ∷ []) t ≡ effects before t) × (end (before ++ s ∷ []) t .array ≡ end before t .array)
+      × (end (before ++ s ∷ []) t .register ≡ end before t .register)
+  -- From a record that is accepted a series returns one that is: at most 60,000,000 busy ticks, and none unless the part is awake.
+  pub stays-sound : (ts : List Turn) (d : Device) → unsound d ≡ false
+      → (lastRecord ts d .busy ≤ 60000000) × (awake (lastRecord ts d .mode) ≡ false → lastRecord ts d .busy ≡ 0)

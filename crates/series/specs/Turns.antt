@@ -1,0 +1,53 @@
+-- A series of calls, each given the record that the last one returned: what comes back, and which operations on the array take
+-- effect. All of it is computed from the first record, the settings, the frames with their levels and ticks, and the lengths of what
+-- is lent; no type here has a place for a byte that is stored. Assumes nothing.
+use Prim.Native.Nat.{ℕ}
+use mathlib.Core.Bool.{cond}
+use mathlib.Core.List.{List, [], _∷_, _++_}
+use lib.ListN.{length}
+use Rattle.sheet.specs.declared.device.Device.{Device}
+use Rattle.settings.specs.declared.Settings.{Settings}
+use Rattle.lent.specs.declared.refusal.Lengths.{Lengths}
+use Rattle.part.specs.declared.frame.Signals.{Signals}
+use Rattle.part.specs.Operations.{Operation}
+use Rattle.part.specs.Frame.{Call, Reply, call, replied}
+use Rattle.part.specs.Effect.{takesEffect, operationOf}
+
+-- What a call is handed beside the record: the settings, the input bytes, the bits clocked with WP's level and the ticks elapsed, and
+-- how many bytes of array, register and output it is lent, which may be any numbers.
+pub record Turn : Type 0 where
+  pub settings : Settings
+  pub input : List ℕ
+  pub signals : Signals
+  pub array : ℕ
+  pub register : ℕ
+  pub output : ℕ
+
+abbrev pub callOf : Turn → Device → Call
+callOf t d = call d (t .settings) (t .input) (t .signals)
+
+abbrev pub lengthsOf : Turn → Lengths
+lengthsOf t = record { array = t .array; register = t .register; input = length (t .input); output = t .output }
+
+-- what comes back
+abbrev pub replyTo : Turn → Device → Reply
+replyTo t d = replied (callOf t d) (lengthsOf t)
+
+-- the operation on the array, if one takes effect by demand 2's rule
+abbrev pub effectOf : Turn → Device → List Operation
+effectOf t d = cond (takesEffect (callOf t d) (lengthsOf t)) (operationOf (callOf t d) (lengthsOf t) ∷ []) []
+
+-- each call's answer, in order
+unfoldable pub replies : List Turn → Device → List Reply
+replies [] d = []
+replies (t ∷ ts) d = replyTo t d ∷ replies ts (replyTo t d .device)
+
+-- the operations that took effect, in order
+unfoldable pub operations : List Turn → Device → List Operation
+operations [] d = []
+operations (t ∷ ts) d = effectOf t d ++ operations ts (replyTo t d .device)
+
+-- the last record
+unfoldable pub lastRecord : List Turn → Device → Device
+lastRecord [] d = d
+lastRecord (t ∷ ts) d = lastRecord ts (replyTo t d .device)
