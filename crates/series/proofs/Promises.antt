@@ -25,7 +25,7 @@ use Rattle.series.specs.Bytes.{applied, since, bytesAt, andAll, startAt}
 use Rattle.series.specs.Promises.{Promises, effects, asRefused}
 use Rattle.series.proofs.Lending.{lent-all, returned-all}
 use Rattle.series.proofs.Applied.{applied-joined, applied-each, through, since-the-last-erase, programs-exchanged, operation-twice}
-use Rattle.series.proofs.Turns.{operations-joined, refused-reply, refused-effect, sound-series, each-works}
+use Rattle.series.proofs.Turns.{one-reply, one-operation, one-record, operations-joined, refused-reply, refused-effect, sound-series, each-works}
 use Rattle.series.proofs.Steps.{results-joined, end-joined, reply-is, array-is, register-is, refused-result, refused-left}
 
 abbrev replyIn : Result → Reply
@@ -82,7 +82,7 @@ never-from-stored-bytes : (ss also : List Step) (t u : State) → turnsOf ss ≡
 never-from-stored-bytes ss also t u e d = (
   as-computed ss t .0 ∙ (rw (e, d) refl ∙ sym (as-computed also u .0)),
   as-computed ss t .1 ∙ (rw (e, d) refl ∙ sym (as-computed also u .1)),
-  rw (e, d) refl,
+  rw (e, d),
 )
 
 and-since-the-last-erase : (ss : List Step) (t : State) (k : ℕ) → k < length (t .array)
@@ -168,13 +168,10 @@ sound ts d u = let s = sound-then (lastRecord ts d) (sound-series ts d u) in (s 
 pub promises : Promises
 promises =
     record {
+      one-after-the-other = λ t ts d. (one-reply t ts d, one-record t ts d, one-operation t ts d);
       lent-whole =
-          λ s t r a b e f. (
-            lent-all (s .turn .array) (t .array) (s .behind) a,
-            lent-all (s .turn .register) (t .register) (s .behind) b,
-            returned-all (r .lent .array) (t .array) e,
-            returned-all (r .lent .register) (t .register) f,
-          );
+          λ s t a b o. rw (lent-all (s .turn .array) (t .array) (s .behind .array) a, lent-all (s .turn .register) (t .register) (s .behind .register) b, lent-all (s .turn .output) (s .buffer) (s .behind .output) o);
+      left-whole = λ r t a b. rw (returned-all (r .lent .array) (t .array) a, returned-all (r .lent .register) (t .register) b);
       as-the-code-does = as-the-code-does;
       can-be-run = λ ss t. (made ss t, runs ss t);
       as-computed = as-computed;

@@ -81,9 +81,9 @@ module _ (s : Step) (t : Scene) (has : 0 < t .array .plain .size) (holds : 0 < t
   lent-told : lentTo s (stateOf t) ≡ lent (memoryOf (t .array)) (memoryOf (t .register)) (s .buffer)
   lent-told =
       rw (
-        lent-all (s .turn .array) (memoryOf (t .array)) (s .behind) (whole .array ∙ sym (length-told (t .array))),
-        lent-all (s .turn .register) (memoryOf (t .register)) (s .behind) (whole .register ∙ sym (length-told (t .register))),
-        lent-all (s .turn .output) (s .buffer) (s .behind) (whole .output),
+        lent-all (s .turn .array) (memoryOf (t .array)) (s .behind .array) (whole .array ∙ sym (length-told (t .array))),
+        lent-all (s .turn .register) (memoryOf (t .register)) (s .behind .register) (whole .register ∙ sym (length-told (t .register))),
+        lent-all (s .turn .output) (s .buffer) (s .behind .output) (whole .output),
       )
 
   output-told : resultOf s (stateOf t) .lent .output

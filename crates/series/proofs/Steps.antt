@@ -68,7 +68,7 @@ module _ (s : Step) (t : State) where
   pub same-lengths : part.lengthsOf c m ≡ lengthsOf (s .turn)
   same-lengths =
       rw
-      (length-lent (s .turn .array) (t .array) (s .behind), length-lent (s .turn .register) (t .register) (s .behind), length-lent (s .turn .output) (s .buffer) (s .behind))
+      (length-lent (s .turn .array) (t .array) (s .behind .array), length-lent (s .turn .register) (t .register) (s .behind .register), length-lent (s .turn .output) (s .buffer) (s .behind .output))
 
   -- what comes back is what is computed
   pub reply-is : resultOf s t .reply ≡ replyTo (s .turn) (t .device)
@@ -90,9 +90,9 @@ module _ (s : Step) (t : State) where
       by true e =
           ap (λ (after : List ℕ). returned after (t .array))
           (then-always c m (ap (takesEffect c) same-lengths ∙ e) .0 ∙ ap (λ (o : Operation). each (cellOf o) (m .array)) (ap (operationOf c) same-lengths)) ∙
-          returned-each (cellOf (operationOf c (lengthsOf (s .turn)))) (s .turn .array) (t .array) (s .behind) (inside e)
+          returned-each (cellOf (operationOf c (lengthsOf (s .turn)))) (s .turn .array) (t .array) (s .behind .array) (inside e)
       by false e =
-          ap (λ (after : List ℕ). returned after (t .array)) (only-then c m (ap (takesEffect c) same-lengths ∙ e)) ∙ returned-same (s .turn .array) (t .array) (s .behind)
+          ap (λ (after : List ℕ). returned after (t .array)) (only-then c m (ap (takesEffect c) same-lengths ∙ e)) ∙ returned-same (s .turn .array) (t .array) (s .behind .array)
 
   -- and the register likewise
   pub register-is : left (resultOf s t) t .register ≡ applied (onceOf (s .turn) (t .device)) (t .register)
@@ -104,9 +104,9 @@ module _ (s : Step) (t : State) where
           ≡ applied (cond b (onRegister (judgedOf c .action) (s .turn .input) ∷ []) []) (t .register)
       by true z =
           let long : s .turn .register ≡ 128 = accepted-turn (s .turn) (t .device) (refusal-is (s .turn) (t .device) ∙ z refl) .register in
-          returned-each (cellOf (onRegister (judgedOf c .action) (s .turn .input))) (s .turn .register) (t .register) (s .behind)
+          returned-each (cellOf (onRegister (judgedOf c .action) (s .turn .input))) (s .turn .register) (t .register) (s .behind .register)
           (λ k x l. once-inside (judgedOf c .action) (s .turn .input) k x (omega arith))
-      by false z = returned-same (s .turn .register) (t .register) (s .behind)
+      by false z = returned-same (s .turn .register) (t .register) (s .behind .register)
 
   -- a refused step answers with its number and leaves all as it was
   pub refused-result : replyTo (s .turn) (t .device) .refusal ≢ 0 → resultOf s t ≡ asRefused s t
@@ -117,4 +117,4 @@ module _ (s : Step) (t : State) where
 
   pub refused-left : replyTo (s .turn) (t .device) .refusal ≢ 0 → left (resultOf s t) t ≡ t
   refused-left n =
-      rw (refused-result n) (rw (returned-same (s .turn .array) (t .array) (s .behind), returned-same (s .turn .register) (t .register) (s .behind)))
+      rw (refused-result n) (rw (returned-same (s .turn .array) (t .array) (s .behind .array), returned-same (s .turn .register) (t .register) (s .behind .register)))

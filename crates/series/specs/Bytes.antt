@@ -20,7 +20,7 @@ erases none k = false
 erases (program size page start sent) k = false
 erases (erase from to) k = range from to k
 
--- one of the operations is
+-- one of the operations is an erase that covers the place
 unfoldable pub erasedIn : List Operation → ℕ → Bool
 erasedIn [] k = false
 erasedIn (o ∷ os) k = erases o k || erasedIn os k

@@ -29,7 +29,7 @@ lends array register output elapsed input =
             output = output;
           };
       buffer = replicate output 0;
-      behind = λ k. 0;
+      behind = record { array = λ k. 0; register = λ k. 0; output = λ k. 0 };
     }
 
 -- one that is lent the memories whole, and as much output as it has bytes
@@ -77,6 +77,7 @@ pub record Example : Type 0 where
       ≡ program 256 0x1000 0 (0x3C ∷ []) ∷ program 256 0x2000 0 (0x0F ∷ []) ∷ erase 0x1000 0x2000 ∷ program 256 0x2000 0 (0xA5 ∷ []) ∷ []
   -- the bytes programmed since the last erase that covered the place
   pub programmed : (bytesAt (since (effects steps begins) 0x1000) 0x1000 ≡ []) × (bytesAt (since (effects steps begins) 0x2000) 0x2000 ≡ 0x0F ∷ 0xA5 ∷ [])
+      × (bytesAt (since (effects steps begins) 0x2001) 0x2001 ≡ [])
   -- erased, whatever was programmed there before
   pub erased : getD (end steps begins .array) 0x1000 0 ≡ 0xFF
   -- F7h AND 0Fh AND A5h

@@ -1,6 +1,6 @@
 -- Demand 3, sentence by sentence: what holds of any series of calls, refused calls and resets among them. Assumes nothing.
 use Prim.Native.Nat.{ℕ, _<_, _≤_}
-use mathlib.Core.Bool.{true, false}
+use mathlib.Core.Bool.{true, false, cond}
 use mathlib.Core.List.{List, [], _∷_, _++_, map}
 use mathlib.Core.Logic.{_≢_}
 use mathlib.Core.Path.{_≡_}
@@ -8,8 +8,9 @@ use lib.ListN.{length, getD}
 use Rattle.sheet.specs.declared.device.Device.{Device}
 use Rattle.sheet.specs.Device.{awake, unsound}
 use Rattle.part.specs.Operations.{Operation}
-use Rattle.part.specs.Frame.{Result, refused}
-use Rattle.series.specs.Turns.{Turn, replyTo, replies, operations, lastRecord}
+use Rattle.part.specs.Frame.{Result, lent, refused}
+use Rattle.part.specs.Effect.{takesEffect, operationOf}
+use Rattle.series.specs.Turns.{Turn, callOf, lengthsOf, replyTo, replies, operations, lastRecord}
 use Rattle.series.specs.Series.{Step, State, Made, turnsOf, lentTo, left, results, end, madeOf, Ran}
 use Rattle.series.specs.Bytes.{applied, since, bytesAt, andAll, startAt, isProgram, eraseless, allWork}
 
@@ -22,13 +23,21 @@ abbrev pub asRefused : Step → State → Result
 asRefused s t = record { reply = refused (replyTo (s .turn) (t .device) .refusal) (t .device); lent = lentTo s t }
 
 pub record Promises : Type 0 where
-  -- A call that is lent array and register whole is lent what they hold, and they hold afterwards what it left.
-  pub lent-whole : (s : Step) (t : State) (r : Result) → s .turn .array ≡ length (t .array) → s .turn .register ≡ length (t .register)
-      → length (r .lent .array) ≡ length (t .array) → length (r .lent .register) ≡ length (t .register)
-      → (lentTo s t .array ≡ t .array) × (lentTo s t .register ≡ t .register) × (left r t .array ≡ r .lent .array) × (left r t .register ≡ r .lent .register)
+  -- One call after the other: each is given the record that the last one returned, and what it does to the array is the operation that
+  -- its opcode asks for, if demand 2's rule lets it take effect, and nothing else.
+  pub one-after-the-other : (t : Turn) (ts : List Turn) (d : Device)
+      → (replies (t ∷ ts) d ≡ replyTo t d ∷ replies ts (replyTo t d .device)) × (lastRecord (t ∷ ts) d ≡ lastRecord ts (replyTo t d .device))
+      × (operations (t ∷ ts) d
+      ≡ cond (takesEffect (callOf t d) (lengthsOf t)) (operationOf (callOf t d) (lengthsOf t) ∷ []) [] ++ operations ts (replyTo t d .device))
+  -- A call that is lent its memories whole is lent what they hold,
+  pub lent-whole : (s : Step) (t : State) → s .turn .array ≡ length (t .array) → s .turn .register ≡ length (t .register)
+      → s .turn .output ≡ length (s .buffer) → lentTo s t ≡ lent (t .array) (t .register) (s .buffer)
+  -- and they hold afterwards what it left, with the record that it returned.
+  pub left-whole : (r : Result) (t : State) → length (r .lent .array) ≡ length (t .array) → length (r .lent .register) ≡ length (t .register)
+      → left r t ≡ record { device = r .reply .device; array = r .lent .array; register = r .lent .register }
   -- What the code returns and leaves is what the series says, call by call, and so are its last record, array and register;
   pub as-the-code-does : (ss : List Step) (t u : State) (cs : List Made) → Ran ss t cs u → (map madeOf cs ≡ results ss t) × (u ≡ end ss t)
-  -- and there is such a run of each series.
+  -- and for each series there are answers that meet the contract of the code, so this is no empty promise.
   pub can-be-run : (ss : List Step) (t : State) → (cs : List Made) × Ran ss t cs (end ss t)
   -- Never from stored bytes: the answers and the last record are computed from the turns and the first record alone,
   pub as-computed : (ss : List Step) (t : State)

@@ -11,11 +11,17 @@ use Rattle.part.specs.Frame.{Lent, Result, Meets, lent, frame}
 use Rattle.part.specs.Frame as part
 use Rattle.series.specs.Turns.{Turn, callOf}
 
--- a call with the buffer that its output goes to, and what the places behind the end of a memory hold when it is made
+-- what the places behind the ends of array, register and output buffer hold
+pub record Behind : Type 0 where
+  pub array : ℕ → ℕ
+  pub register : ℕ → ℕ
+  pub output : ℕ → ℕ
+
+-- a call with the buffer that its output goes to, and what lies behind the memories when it is made
 pub record Step : Type 0 where
   pub turn : Turn
   pub buffer : List ℕ
-  pub behind : ℕ → ℕ
+  pub behind : Behind
 
 abbrev pub turnsOf : List Step → List Turn
 turnsOf ss = map (λ (s : Step). s .turn) ss
@@ -30,14 +36,14 @@ pub record State : Type 0 where
 abbrev pub lentOf : ℕ → List ℕ → (ℕ → ℕ) → List ℕ
 lentOf n memory behind = each (λ k x. getD memory k (behind k)) (replicate n 0)
 
--- What the call leaves of them the memory holds afterwards.
+-- Of the memory's own bytes it holds afterwards what the call left in their places.
 abbrev pub returned : List ℕ → List ℕ → List ℕ
 returned after memory = each (stored (range 0 (length after)) (λ k. getD after k 0)) memory
 
 abbrev pub lentTo : Step → State → Lent
 lentTo s t =
-    lent (lentOf (s .turn .array) (t .array) (s .behind)) (lentOf (s .turn .register) (t .register) (s .behind))
-    (lentOf (s .turn .output) (s .buffer) (s .behind))
+    lent (lentOf (s .turn .array) (t .array) (s .behind .array)) (lentOf (s .turn .register) (t .register) (s .behind .register))
+    (lentOf (s .turn .output) (s .buffer) (s .behind .output))
 
 -- a call
 abbrev pub resultOf : Step → State → Result

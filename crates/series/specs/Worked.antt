@@ -65,7 +65,7 @@ stepOf settings size e =
             output = length (e .sent .bytes) + 1;
           };
       buffer = replicate (length (e .sent .bytes) + 1) canary;
-      behind = λ k. canary;
+      behind = record { array = λ k. canary; register = λ k. canary; output = λ k. canary };
     }
 
 abbrev pub stepsOf : Row → List Step
