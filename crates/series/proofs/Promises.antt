@@ -1,7 +1,7 @@
 -- Demand 3 holds. Assumes nothing.
 use Prim.Native.Nat.{ℕ, _<_, _≤_}
 use mathlib.Core.Bool.{Bool, true, false, cond, and-false}
-use mathlib.Core.List.{List, [], _∷_, _++_, map, map-append, append-nil}
+use mathlib.Core.List.{List, [], _∷_, _++_, map, map-append}
 use mathlib.Core.Logic.{_≢_}
 use mathlib.Core.Path.{_≡_, refl, sym, ap, subst, _∙_}
 use lib.Dec.{eqb}
@@ -149,16 +149,19 @@ module _ (s : Step) (t : State) (code : getD (s .turn .input) 0 0 ≡ 0xF0) wher
       by true = rw still (sym (each-same (t .register)))
       by false = refl
 
-reset-takes-nothing-back : (before : List Step) (s : Step) (t : State) → getD (s .turn .input) 0 0 ≡ 0xF0
-    → (effects (before ++ s ∷ []) t ≡ effects before t) × (end (before ++ s ∷ []) t .array ≡ end before t .array)
-    × (end (before ++ s ∷ []) t .register ≡ end before t .register)
+reset-takes-nothing-back : (before after : List Step) (s : Step) (t : State) → getD (s .turn .input) 0 0 ≡ 0xF0
+    → (end (before ++ s ∷ []) t .array ≡ end before t .array) × (end (before ++ s ∷ []) t .register ≡ end before t .register)
+    × (effects (before ++ s ∷ after) t ≡ effects before t ++ effects after (end (before ++ s ∷ []) t))
 unfolding operations end applied
-reset-takes-nothing-back before s t code =
-    let u = end before t in (
-      effects-joined before (s ∷ []) t ∙
-          (ap (λ (os : List Operation). effects before t ++ (os ++ [])) (reset-effect s u code) ∙ append-nil (effects before t)),
-      ap (λ (v : State). v .array) (end-joined before (s ∷ []) t) ∙ (array-is s u ∙ ap (λ (os : List Operation). applied os (u .array)) (reset-effect s u code)),
-      ap (λ (v : State). v .register) (end-joined before (s ∷ []) t) ∙ reset-register s u code,
+reset-takes-nothing-back before after s t code =
+    let u = end before t in
+    let there : end (before ++ s ∷ []) t ≡ left (resultOf s u) u = end-joined before (s ∷ []) t in (
+      ap (λ (v : State). v .array) there ∙ (array-is s u ∙ ap (λ (os : List Operation). applied os (u .array)) (reset-effect s u code)),
+      ap (λ (v : State). v .register) there ∙ reset-register s u code,
+      effects-joined before (s ∷ after) t ∙
+          ap (λ (os : List Operation). effects before t ++ os)
+          (ap (λ (os : List Operation). os ++ operations (turnsOf after) (replyTo (s .turn) (u .device) .device)) (reset-effect s u code) ∙
+          (ap (λ (r : Reply). operations (turnsOf after) (r .device)) (sym (reply-is s u)) ∙ ap (effects after) (sym there))),
     )
 
 sound : (ts : List Turn) (d : Device) → unsound d ≡ false

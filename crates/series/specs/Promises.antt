@@ -1,4 +1,5 @@
--- Demand 3, sentence by sentence: what holds of any series of calls, refused calls and resets among them. Assumes nothing.
+-- Demand 3, sentence by sentence: what holds of any series of calls, refused calls and resets among them. To read it: ss are steps, ts are
+-- their turns, t and u are what stands before or after them, d is a record, k a place of the array, xs an array. Assumes nothing.
 use Prim.Native.Nat.{ℕ, _<_, _≤_}
 use mathlib.Core.Bool.{true, false, cond}
 use mathlib.Core.List.{List, [], _∷_, _++_, map}
@@ -66,10 +67,10 @@ pub record Promises : Type 0 where
       → (effects (before ++ s ∷ after) t ≡ effects (before ++ after) t) × (end (before ++ s ∷ after) t ≡ end (before ++ after) t)
       × (results (before ++ after) t ≡ results before t ++ results after (end before t))
       × (results (before ++ s ∷ after) t ≡ results before t ++ asRefused s (end before t) ∷ results after (end before t))
-  -- A reset, carried out or not, takes no change back: the operations before it stand, and array and register stay.
-  pub reset-takes-nothing-back : (before : List Step) (s : Step) (t : State) → getD (s .turn .input) 0 0 ≡ 0xF0
-      → (effects (before ++ s ∷ []) t ≡ effects before t) × (end (before ++ s ∷ []) t .array ≡ end before t .array)
-      × (end (before ++ s ∷ []) t .register ≡ end before t .register)
+  -- A reset, carried out or not, takes no change back: array and register stay, and whatever comes after it, the operations before it stand.
+  pub reset-takes-nothing-back : (before after : List Step) (s : Step) (t : State) → getD (s .turn .input) 0 0 ≡ 0xF0
+      → (end (before ++ s ∷ []) t .array ≡ end before t .array) × (end (before ++ s ∷ []) t .register ≡ end before t .register)
+      × (effects (before ++ s ∷ after) t ≡ effects before t ++ effects after (end (before ++ s ∷ []) t))
   -- From a record that is accepted a series returns one that is: at most 60,000,000 busy ticks, and none unless the part is awake.
   pub stays-sound : (ts : List Turn) (d : Device) → unsound d ≡ false
       → (lastRecord ts d .busy ≤ 60000000) × (awake (lastRecord ts d .mode) ≡ false → lastRecord ts d .busy ≡ 0)
