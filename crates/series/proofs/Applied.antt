@@ -1,10 +1,9 @@
 -- The laws of a list of operations: joined lists, what becomes of the byte at one place, and which operations may be exchanged or left
 -- out. Assumes nothing.
 use Prim.Native.Nat.{ℕ, _-_}
-use mathlib.Core.Bool.{Bool, true, false, true≢false, false≢true, cond, not, _||_, and-eq-true-iff}
-use mathlib.Core.List.{List, [], _∷_, _++_}
+use mathlib.Core.Bool.{Bool, true, false, true≢false, false≢true, cond, _||_}
+use mathlib.Core.List.{List, [], _∷_, _++_, map}
 use mathlib.Core.Path.{_≡_, refl, sym, ap, _∙_}
-use borrow.Author.Tests.{not-true}
 use lib.Bits.{bitAnd}
 use lib.ListN.{length}
 use Rattle.cells.specs.Each.{Cell, each, over}
@@ -12,7 +11,7 @@ use Rattle.cells.specs.Page.{aimedAt, last}
 use Rattle.cells.proofs.Places.{length-each, each-same, each-then}
 use Rattle.cells.proofs.Laws.{programs-commute, program-twice, erase-twice}
 use Rattle.part.specs.Operations.{Operation, none, program, erase, cellOf}
-use Rattle.series.specs.Bytes.{applied, erases, erasedIn, since, byteOf, bytesAt, andAll, startAt, isProgram, isErase, eraseless}
+use Rattle.series.specs.Bytes.{Program, applied, erases, erasedIn, since, byteOf, bytesAt, andAll, startAt, programOf}
 
 -- two lists joined: the second on what the first one left
 pub applied-joined : (os ps : List Operation) (xs : List ℕ) → applied (os ++ ps) xs ≡ applied ps (applied os xs)
@@ -88,26 +87,16 @@ since-the-last-erase (o ∷ os) k x = by (erases o k) (erasedIn os k) refl refl 
     by false true h g ih = ih ∙ rw g
     by false false h g ih = all-anded (o ∷ os) k x (rw (h, g))
 
--- a program changes places with any operation that is no erase
-exchanged : (o p : Operation) (xs : List ℕ) → isErase o ≡ false → isProgram p ≡ true → each (cellOf o) (each (cellOf p) xs) ≡ each (cellOf p) (each (cellOf o) xs)
-exchanged none p xs e q = sym (each-same (each (cellOf p) xs)) ∙ ap (each (cellOf p)) (each-same xs)
-exchanged (program size page start sent) none xs e q = absurd (false≢true q)
-exchanged (program size page start sent) (program size′ page′ start′ sent′) xs e q = programs-commute size page start sent size′ page′ start′ sent′ xs
-exchanged (program size page start sent) (erase from to) xs e q = absurd (false≢true q)
-exchanged (erase from to) p xs e q = absurd (true≢false e)
+exchanged : (p q : Program) (xs : List ℕ)
+    → each (cellOf (programOf p)) (each (cellOf (programOf q)) xs) ≡ each (cellOf (programOf q)) (each (cellOf (programOf p)) xs)
+exchanged p q xs = programs-commute (p .size) (p .page) (p .start) (p .sent) (q .size) (q .page) (q .start) (q .sent) xs
 
--- and with a list of them
-passes : (os : List Operation) (p : Operation) (xs : List ℕ) → eraseless os ≡ true → isProgram p ≡ true → applied os (each (cellOf p) xs) ≡ each (cellOf p) (applied os xs)
-unfolding applied eraseless
-passes [] p xs e q = refl
-passes (o ∷ os) p xs e q =
-    let w : (not (isErase o) ≡ true) × (eraseless os ≡ true) = and-eq-true-iff (not (isErase o)) (eraseless os) .0 e in
-    ap (applied os) (exchanged o p xs (not-true (isErase o) (w .0)) q) ∙ passes os p (each (cellOf o) xs) (w .1) q
-
-program-no-erase : (o : Operation) → isProgram o ≡ true → isErase o ≡ false
-program-no-erase none e = refl
-program-no-erase (program size page start sent) e = refl
-program-no-erase (erase from to) e = absurd (false≢true e)
+-- a program changes places with a list of programs
+passes : (ps : List Program) (p : Program) (xs : List ℕ)
+    → applied (map programOf ps) (each (cellOf (programOf p)) xs) ≡ each (cellOf (programOf p)) (applied (map programOf ps) xs)
+unfolding applied
+passes [] p xs = refl
+passes (q ∷ ps) p xs = ap (applied (map programOf ps)) (exchanged q p xs) ∙ passes ps p (each (cellOf (programOf q)) xs)
 
 -- a program, a list of operations and another program, one after the other
 three : (before between after : List Operation) (p q : Operation) (xs : List ℕ)
@@ -117,16 +106,18 @@ three before between after p q xs =
     applied-joined (before ++ p ∷ between) (q ∷ after) xs ∙
     ap (λ (ys : List ℕ). applied after (each (cellOf q) ys)) (applied-joined before (p ∷ between) xs)
 
--- two programs with no erase between them may change places
-pub programs-exchanged : (before between after : List Operation) (p q : Operation) (xs : List ℕ) → isProgram p ≡ true → isProgram q ≡ true → eraseless between ≡ true
-    → applied (before ++ p ∷ between ++ q ∷ after) xs ≡ applied (before ++ q ∷ between ++ p ∷ after) xs
-programs-exchanged before between after p q xs f g e =
+-- two programs with nothing but programs between them may change places
+pub programs-exchanged : (before after : List Operation) (between : List Program) (p q : Program) (xs : List ℕ)
+    → applied (before ++ programOf p ∷ map programOf between ++ programOf q ∷ after) xs
+    ≡ applied (before ++ programOf q ∷ map programOf between ++ programOf p ∷ after) xs
+programs-exchanged before after between p q xs =
     let ys = applied before xs in
-    three before between after p q xs ∙
-    (ap (λ (zs : List ℕ). applied after zs)
-    (ap (each (cellOf q)) (passes between p ys e f) ∙
-    (exchanged q p (applied between ys) (program-no-erase q g) f ∙ ap (each (cellOf p)) (sym (passes between q ys e g)))) ∙
-    sym (three before between after q p xs))
+    let ps = map programOf between in
+    three before ps after (programOf p) (programOf q) xs ∙
+    (ap (applied after)
+    (ap (each (cellOf (programOf q))) (passes between p ys) ∙
+    (exchanged q p (applied ps ys) ∙ ap (each (cellOf (programOf p))) (sym (passes between q ys)))) ∙
+    sym (three before ps after (programOf q) (programOf p) xs))
 
 again : (o : Operation) (xs : List ℕ) → each (cellOf o) (each (cellOf o) xs) ≡ each (cellOf o) xs
 again none xs = sym (each-same (each (cellOf none) xs))

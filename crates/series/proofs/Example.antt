@@ -52,17 +52,19 @@ example =
       kept = byte steps 0x0FFF (omega arith);
     }
 
--- the byte at 002000h tells an array from that of a run
-differs : (u : State) (xs : List ℕ) (x : ℕ) → u ≡ end steps begins → getD xs 0x2000 0 ≡ x → 0x05 ≢ x → u .array ≢ xs
-differs u xs x e b n a = n (sym (example .anded) ∙ (ap (λ (t : State). getD (t .array) 0x2000 0) (sym e) ∙ (ap (λ (ys : List ℕ). getD ys 0x2000 0) a ∙ b)))
+-- one byte tells an array from that of a run
+differs : (u : State) (xs : List ℕ) (k x y : ℕ) → u ≡ end steps begins → getD (end steps begins .array) k 0 ≡ x → getD xs k 0 ≡ y → x ≢ y → u .array ≢ xs
+differs u xs k x y e a b n same =
+    n (sym a ∙ (ap (λ (t : State). getD (t .array) k 0) (sym e) ∙ (ap (λ (ys : List ℕ). getD ys k 0) same ∙ b)))
 
 pub shut-out : (u : State) (cs : List Made) → Ran steps begins cs u → ShutOut u
 unfolding replies operations replied numberFor refusalOf anyUnfair judgedOf judged byOpcode rowOf rows lookup through over covered last
 shut-out u cs r =
     let e = promises .as-the-code-does steps begins u cs r .1 in
     record {
-      idle = differs u (begins .array) 0xF7 e (getD-blank 131072 0xF7 0x2000 (omega arith)) (omega arith);
-      first-only = differs u (end (take 4 steps) begins .array) 0xF7 e (byte (take 4 steps) 0x2000 (omega arith)) (omega arith);
-      forgetful = differs u _ 0xA5 e (byte-after _ 0x2000 (omega arith)) (omega arith);
+      idle = differs u (begins .array) 0x2000 0x05 0xF7 e (example .anded) (getD-blank 131072 0xF7 0x2000 (omega arith)) (omega arith);
+      first-only = differs u (end (take 4 steps) begins .array) 0x2000 0x05 0xF7 e (example .anded) (byte (take 4 steps) 0x2000 (omega arith)) (omega arith);
+      forgetful = differs u _ 0x2000 0x05 0xA5 e (example .anded) (byte-after _ 0x2000 (omega arith)) (omega arith);
+      exchanged-across = differs u _ 0x1000 0xFF 0x3C e (example .erased) (byte-after _ 0x1000 (omega arith)) (omega arith);
       across-the-erase = λ a. absurd (omega (arith, sym a ∙ (ap (λ (t : State). getD (t .array) 0x1000 0) e ∙ example .erased)));
     }

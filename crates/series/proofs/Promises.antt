@@ -16,7 +16,7 @@ use Rattle.sheet.proofs.Begins.{exactly-when}
 use Rattle.sheet.proofs.Leaves.{reset-still}
 use Rattle.sheet.proofs.Records.{sound-then}
 use Rattle.part.specs.Operations.{Operation, onRegister}
-use Rattle.part.specs.Frame.{Reply, Result, factsOf, timed, judgedOf, numberFor}
+use Rattle.part.specs.Frame.{Reply, Result, Meets, factsOf, timed, judgedOf, numberFor}
 use Rattle.part.specs.Frame as part
 use Rattle.part.proofs.Answers.{answerOf, some-answer}
 use Rattle.series.specs.Turns.{Turn, callOf, lengthsOf, replyTo, effectOf, replies, operations, lastRecord}
@@ -25,8 +25,8 @@ use Rattle.series.specs.Bytes.{applied, since, bytesAt, andAll, startAt}
 use Rattle.series.specs.Promises.{Promises, effects, asRefused}
 use Rattle.series.proofs.Lending.{lent-all, returned-all}
 use Rattle.series.proofs.Applied.{applied-joined, applied-each, through, since-the-last-erase, programs-exchanged, operation-twice}
-use Rattle.series.proofs.Turns.{one-reply, one-operation, one-record, operations-joined, refused-reply, refused-effect, sound-series, each-works}
-use Rattle.series.proofs.Steps.{results-joined, end-joined, reply-is, array-is, register-is, refused-result, refused-left}
+use Rattle.series.proofs.Turns.{one-reply, one-operation, one-record, effect-begun, operations-joined, refused-reply, refused-effect, sound-series, each-works}
+use Rattle.series.proofs.Steps.{one-result, one-end, results-joined, end-joined, reply-is, array-is, register-is, refused-result, refused-left}
 
 abbrev replyIn : Result → Reply
 replyIn r = r .reply
@@ -50,6 +50,12 @@ as-the-code-does (s ∷ ss) t u (c ∷ cs) r =
           ap (λ (rs : List Result). resultOf s t ∷ rs) (rest .0 ∙ ap (λ (x : Result). results ss (left x t)) (r .0)),
       rest .1 ∙ ap (λ (x : Result). end ss (left x t)) (r .0),
     )
+
+-- one call of a run
+one-run : (s : Step) (ss : List Step) (t u : State) (a : Made) (rest : List Made) → Ran (s ∷ ss) t (a ∷ rest) u
+    → Meets (callOf (s .turn) (t .device)) (lentTo s t) (a .answer) (a .lent) × Ran ss (left (madeOf a) t) rest u
+unfolding Ran
+one-run s ss t u a rest r = r
 
 -- a run of the code
 made : List Step → State → List Made
@@ -171,7 +177,9 @@ sound ts d u = let s = sound-then (lastRecord ts d) (sound-series ts d u) in (s 
 pub promises : Promises
 promises =
     record {
-      one-after-the-other = λ t ts d. (one-reply t ts d, one-record t ts d, one-operation t ts d);
+      one-after-the-other = λ t ts d c l e f. rw (e, f) (one-reply t ts d, one-record t ts d, one-operation t ts d);
+      frame-by-frame = λ s ss t c e. rw e (one-result s ss t, one-end s ss t);
+      call-by-call = λ s ss t u a rest c e r. rw e (one-run s ss t u a rest r);
       lent-whole =
           λ s t a b o. rw (lent-all (s .turn .array) (t .array) (s .behind .array) a, lent-all (s .turn .register) (t .register) (s .behind .register) b, lent-all (s .turn .output) (s .buffer) (s .behind .output) o);
       left-whole = λ r t a b. rw (returned-all (r .lent .array) (t .array) a, returned-all (r .lent .register) (t .register) b);
@@ -180,6 +188,7 @@ promises =
       as-computed = as-computed;
       never-from-stored-bytes = never-from-stored-bytes;
       each-works = each-works;
+      each-reported = effect-begun;
       as-carried-out = as-carried-out;
       and-since-the-last-erase = and-since-the-last-erase;
       change-places = programs-exchanged;

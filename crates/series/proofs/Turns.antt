@@ -1,7 +1,7 @@
 -- The laws of a series as it is computed from its turns: one step, two lists joined, a refused turn, and the records that it returns.
 -- Assumes nothing.
 use Prim.Native.Nat.{ℕ}
-use mathlib.Core.Bool.{Bool, true, false, false≢true, cond, not, _||_, and-eq-true-iff}
+use mathlib.Core.Bool.{Bool, true, false, false≢true, cond, not, and-eq-true-iff}
 use mathlib.Core.List.{List, [], _∷_, _++_, append-assoc}
 use mathlib.Core.Logic.{_≢_}
 use mathlib.Core.Path.{_≡_, refl, sym, ap, _∙_}
@@ -16,14 +16,16 @@ use Rattle.sheet.specs.declared.device.Device.{Device}
 use Rattle.sheet.specs.declared.judge.Facts.{Facts}
 use Rattle.sheet.specs.Begins.{asksFor, meansArray, ready}
 use Rattle.sheet.specs.Device.{awake, isBusy, unsound}
-use Rattle.sheet.proofs.Leaves.{stays-sound}
+use Rattle.sheet.proofs.Begins.{exactly-when}
+use Rattle.sheet.proofs.Leaves.{as-asked, stays-sound}
 use Rattle.sheet.proofs.Records.{passed-sound}
 use Rattle.lent.proofs.Lengths.{Accepted, accepted}
 use Rattle.part.specs.Operations.{Operation, onArray}
-use Rattle.part.specs.Frame.{Reply, numberFor, timed, factsOf, judgedOf, answered, refused, replied}
+use Rattle.part.specs.Words.{wordOf}
+use Rattle.part.specs.Frame.{Call, Reply, numberFor, timed, factsOf, judgedOf, answered, refused, replied}
 use Rattle.part.specs.Effect.{takesEffect, operationOf}
 use Rattle.series.specs.Turns.{Turn, callOf, lengthsOf, replyTo, effectOf, replies, operations, lastRecord}
-use Rattle.series.specs.Bytes.{isProgram, isErase, allWork}
+use Rattle.series.specs.Bytes.{works, allWork}
 
 -- one step
 pub one-reply : (t : Turn) (ts : List Turn) (d : Device) → replies (t ∷ ts) d ≡ replyTo t d ∷ replies ts (replyTo t d .device)
@@ -57,7 +59,7 @@ record-joined [] us d = refl
 record-joined (t ∷ ts) us d = record-joined ts us (replyTo t d .device)
 
 -- what an opcode for the array asks for is a program or an erase
-asked-works : (c : Command) (size : ℕ) (input : List ℕ) → meansArray c ≡ true → (isProgram (onArray (asksFor c) size input) || isErase (onArray (asksFor c) size input)) ≡ true
+asked-works : (c : Command) (size : ℕ) (input : List ℕ) → meansArray c ≡ true → works (onArray (asksFor c) size input) ≡ true
 asked-works Unlisted size input e = absurd (false≢true e)
 asked-works (Reads source) size input e = absurd (false≢true e)
 asked-works (Orders order) size input e = absurd (false≢true e)
@@ -124,6 +126,23 @@ module _ (t : Turn) (d : Device) where
       by true e = rw (asked-works (rowOf (f .code) .command) (t .array) (t .input) (means e))
       by false e = refl
 
+  -- which is reported as begun
+  pub effect-begun : effectOf t d ≢ [] → replyTo t d .outcome ≡ "begun"
+  unfolding judgedOf
+  effect-begun n = by (takesEffect (callOf t d) (lengthsOf t)) refl n
+    where
+      c : Call
+      c = callOf t d
+
+      begun : takesEffect c (lengthsOf t) ≡ true → wordOf (judgedOf c .outcome) ≡ "begun"
+      begun e =
+          let readied = and-eq-true-iff (eqb number 0) (ready (timed c) (factsOf c)) .0 e .1 in
+          ap wordOf (as-asked (timed c) (t .settings) (factsOf c) (exactly-when (timed c) (t .settings) (factsOf c) ∙ readied) .1)
+
+      by : (b : Bool) → takesEffect c (lengthsOf t) ≡ b → cond b (operationOf c (lengthsOf t) ∷ []) [] ≢ [] → replyTo t d .outcome ≡ "begun"
+      by true e n = ap (λ (r : Reply). r .outcome) (accepted-reply (effect-accepted e)) ∙ begun e
+      by false e n = absurd (n refl)
+
   -- a turn returns a record that is accepted, if it was given one
   pub sound-turn : unsound d ≡ false → unsound (replyTo t d .device) ≡ false
   unfolding judgedOf
@@ -146,7 +165,7 @@ works-joined : (os ps : List Operation) → allWork os ≡ true → allWork ps �
 unfolding allWork
 works-joined [] ps e f = f
 works-joined (o ∷ os) ps e f =
-    let w = and-eq-true-iff (isProgram o || isErase o) (allWork os) .0 e in
+    let w = and-eq-true-iff (works o) (allWork os) .0 e in
     rw (w .0) (works-joined os ps (w .1) f)
 
 pub each-works : (ts : List Turn) (d : Device) → allWork (operations ts d) ≡ true

@@ -1,6 +1,6 @@
 -- What a list of operations makes of an array, and of the byte at one of its places. Assumes nothing.
 use Prim.Native.Nat.{ℕ, _-_}
-use mathlib.Core.Bool.{Bool, true, false, cond, not, _&&_, _||_}
+use mathlib.Core.Bool.{Bool, true, false, cond, _&&_, _||_}
 use mathlib.Core.List.{List, [], _∷_, _++_}
 use lib.Bits.{bitAnd}
 use lib.ListN.{length}
@@ -50,22 +50,23 @@ andAll x (b ∷ bs) = andAll (bitAnd x b) bs
 abbrev pub startAt : List Operation → ℕ → ℕ → ℕ
 startAt os k x = cond (erasedIn os k) 0xFF x
 
-abbrev pub isProgram : Operation → Bool
-isProgram none = false
-isProgram (program size page start sent) = true
-isProgram (erase from to) = false
+-- a program by itself
+pub record Program : Type 0 where
+  pub size : ℕ
+  pub page : ℕ
+  pub start : ℕ
+  pub sent : List ℕ
 
-abbrev pub isErase : Operation → Bool
-isErase none = false
-isErase (program size page start sent) = false
-isErase (erase from to) = true
+abbrev pub programOf : Program → Operation
+programOf p = program (p .size) (p .page) (p .start) (p .sent)
 
--- no erase is among the operations
-unfoldable pub eraseless : List Operation → Bool
-eraseless [] = true
-eraseless (o ∷ os) = not (isErase o) && eraseless os
+-- a program or an erase
+abbrev pub works : Operation → Bool
+works none = false
+works (program size page start sent) = true
+works (erase from to) = true
 
--- each of them is a program or an erase
+-- each of the operations is one
 unfoldable pub allWork : List Operation → Bool
 allWork [] = true
-allWork (o ∷ os) = (isProgram o || isErase o) && allWork os
+allWork (o ∷ os) = works o && allWork os

@@ -93,5 +93,8 @@ pub record ShutOut (u : State) : Type 0 where
   pub first-only : u .array ≢ end (take 4 steps) begins .array
   -- what a part leaves that forgets one operation, the second
   pub forgetful : u .array ≢ applied (program 256 0x1000 0 (0x3C ∷ []) ∷ erase 0x1000 0x2000 ∷ program 256 0x2000 0 (0xA5 ∷ []) ∷ []) (begins .array)
+  -- what two programs leave that changed places across the erase, the first and the last
+  pub exchanged-across : u .array
+      ≢ applied (program 256 0x2000 0 (0xA5 ∷ []) ∷ program 256 0x2000 0 (0x0F ∷ []) ∷ erase 0x1000 0x2000 ∷ program 256 0x1000 0 (0x3C ∷ []) ∷ []) (begins .array)
   -- F7h AND 3Ch where the erase came after the program
   pub across-the-erase : getD (u .array) 0x1000 0 ≢ 0x34

@@ -9,11 +9,12 @@ use lib.ListN.{length, getD}
 use Rattle.sheet.specs.declared.device.Device.{Device}
 use Rattle.sheet.specs.Device.{awake, unsound}
 use Rattle.part.specs.Operations.{Operation}
-use Rattle.part.specs.Frame.{Result, lent, refused}
+use Rattle.lent.specs.declared.refusal.Lengths.{Lengths}
+use Rattle.part.specs.Frame.{Call, Result, Meets, call, lent, refused, replied, frame}
 use Rattle.part.specs.Effect.{takesEffect, operationOf}
-use Rattle.series.specs.Turns.{Turn, callOf, lengthsOf, replyTo, replies, operations, lastRecord}
+use Rattle.series.specs.Turns.{Turn, replyTo, effectOf, replies, operations, lastRecord}
 use Rattle.series.specs.Series.{Step, State, Made, turnsOf, lentTo, left, results, end, madeOf, Ran}
-use Rattle.series.specs.Bytes.{applied, since, bytesAt, andAll, startAt, isProgram, eraseless, allWork}
+use Rattle.series.specs.Bytes.{Program, applied, since, bytesAt, andAll, startAt, programOf, allWork}
 
 -- the operations that took effect in a series of steps
 abbrev pub effects : List Step → State → List Operation
@@ -24,12 +25,19 @@ abbrev pub asRefused : Step → State → Result
 asRefused s t = record { reply = refused (replyTo (s .turn) (t .device) .refusal) (t .device); lent = lentTo s t }
 
 pub record Promises : Type 0 where
-  -- One call after the other: each is given the record that the last one returned, and what it does to the array is the operation that
-  -- its opcode asks for, if demand 2's rule lets it take effect, and nothing else.
-  pub one-after-the-other : (t : Turn) (ts : List Turn) (d : Device)
-      → (replies (t ∷ ts) d ≡ replyTo t d ∷ replies ts (replyTo t d .device)) × (lastRecord (t ∷ ts) d ≡ lastRecord ts (replyTo t d .device))
-      × (operations (t ∷ ts) d
-      ≡ cond (takesEffect (callOf t d) (lengthsOf t)) (operationOf (callOf t d) (lengthsOf t) ∷ []) [] ++ operations ts (replyTo t d .device))
+  -- One call after the other: each is given the record that the last one returned, with its own settings, frame, level, ticks and
+  -- lengths; it answers by them, and adds to the operations the one that its opcode asks for, if demand 2's rule lets that take effect.
+  pub one-after-the-other : (t : Turn) (ts : List Turn) (d : Device) (c : Call) (l : Lengths) → c ≡ call d (t .settings) (t .input) (t .signals)
+      → l ≡ record { array = t .array; register = t .register; input = length (t .input); output = t .output }
+      → (replies (t ∷ ts) d ≡ replied c l ∷ replies ts (replied c l .device)) × (lastRecord (t ∷ ts) d ≡ lastRecord ts (replied c l .device))
+      × (operations (t ∷ ts) d ≡ cond (takesEffect c l) (operationOf c l ∷ []) [] ++ operations ts (replied c l .device))
+  -- On memories each call is a frame, on what the last one left;
+  pub frame-by-frame : (s : Step) (ss : List Step) (t : State) (c : Call) → c ≡ call (t .device) (s .turn .settings) (s .turn .input) (s .turn .signals)
+      → (results (s ∷ ss) t ≡ frame c (lentTo s t) ∷ results ss (left (frame c (lentTo s t)) t)) × (end (s ∷ ss) t ≡ end ss (left (frame c (lentTo s t)) t))
+  -- and a run of the code is a call that meets its contract, and a run on what it left.
+  pub call-by-call : (s : Step) (ss : List Step) (t u : State) (a : Made) (rest : List Made) (c : Call)
+      → c ≡ call (t .device) (s .turn .settings) (s .turn .input) (s .turn .signals) → Ran (s ∷ ss) t (a ∷ rest) u
+      → Meets c (lentTo s t) (a .answer) (a .lent) × Ran ss (left (madeOf a) t) rest u
   -- A call that is lent its memories whole is lent what they hold,
   pub lent-whole : (s : Step) (t : State) → s .turn .array ≡ length (t .array) → s .turn .register ≡ length (t .register)
       → s .turn .output ≡ length (s .buffer) → lentTo s t ≡ lent (t .array) (t .register) (s .buffer)
@@ -47,18 +55,19 @@ pub record Promises : Type 0 where
   pub never-from-stored-bytes : (ss also : List Step) (t u : State) → turnsOf ss ≡ turnsOf also → t .device ≡ u .device
       → (map (λ (r : Result). r .reply) (results ss t) ≡ map (λ (r : Result). r .reply) (results also u)) × (end ss t .device ≡ end also u .device)
       × (effects ss t ≡ effects also u)
-  -- What takes effect is a program or an erase,
+  -- What takes effect is a program or an erase, and is reported as begun;
   pub each-works : (ts : List Turn) (d : Device) → allWork (operations ts d) ≡ true
-  -- and the array after the series is the array before it with the operations that took effect carried out in order.
+  pub each-reported : (t : Turn) (d : Device) → effectOf t d ≢ [] → replyTo t d .outcome ≡ "begun"
+  -- the array after the series is the array before it with the operations that took effect carried out in order.
   pub as-carried-out : (ss : List Step) (t : State) → end ss t .array ≡ applied (effects ss t) (t .array)
   -- Each byte afterwards is the AND of all bytes programmed at it since the last erase that covered it, starting from FFh, or from its
   -- first content if none covered it.
   pub and-since-the-last-erase : (ss : List Step) (t : State) (k : ℕ) → k < length (t .array)
       → getD (end ss t .array) k 0 ≡ andAll (startAt (effects ss t) k (getD (t .array) k 0)) (bytesAt (since (effects ss t) k) k)
-  -- Two programs with no erase between them may change places.
-  pub change-places : (before between after : List Operation) (p q : Operation) (xs : List ℕ)
-      → isProgram p ≡ true → isProgram q ≡ true → eraseless between ≡ true
-      → applied (before ++ p ∷ between ++ q ∷ after) xs ≡ applied (before ++ q ∷ between ++ p ∷ after) xs
+  -- Two programs with no erase between them, so with none or with programs only, may change places.
+  pub change-places : (before after : List Operation) (between : List Program) (p q : Program) (xs : List ℕ)
+      → applied (before ++ programOf p ∷ map programOf between ++ programOf q ∷ after) xs
+      ≡ applied (before ++ programOf q ∷ map programOf between ++ programOf p ∷ after) xs
   -- An operation carried out twice in a row does what it does once.
   pub twice-is-once : (before after : List Operation) (o : Operation) (xs : List ℕ) → applied (before ++ o ∷ o ∷ after) xs ≡ applied (before ++ o ∷ after) xs
   -- A refused call changes nothing but its own answer: without it the series has the same operations, the same end, and the same
