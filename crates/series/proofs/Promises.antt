@@ -1,5 +1,6 @@
 -- Demand 3 holds. Assumes nothing.
 use Prim.Native.Nat.{ℕ, _<_, _≤_}
+use Prim.Native.String.{String}
 use mathlib.Core.Bool.{Bool, true, false, cond, and-false}
 use mathlib.Core.List.{List, [], _∷_, _++_, map, map-append}
 use mathlib.Core.Logic.{_≢_}
@@ -170,6 +171,10 @@ reset-takes-nothing-back before after s t code =
           (ap (λ (r : Reply). operations (turnsOf after) (r .device)) (sym (reply-is s u)) ∙ ap (effects after) (sym there))),
     )
 
+reported : (t : Turn) (d : Device) → operations (t ∷ []) d ≢ [] → map (λ (r : Reply). r .outcome) (replies (t ∷ []) d) ≡ "begun" ∷ []
+unfolding operations replies
+reported t d n = ap (λ (w : String). w ∷ []) (effect-begun t d (λ e. n (ap (λ (os : List Operation). os ++ []) e)))
+
 sound : (ts : List Turn) (d : Device) → unsound d ≡ false
     → (lastRecord ts d .busy ≤ 60000000) × (awake (lastRecord ts d .mode) ≡ false → lastRecord ts d .busy ≡ 0)
 sound ts d u = let s = sound-then (lastRecord ts d) (sound-series ts d u) in (s .short, s .idle)
@@ -188,7 +193,7 @@ promises =
       as-computed = as-computed;
       never-from-stored-bytes = never-from-stored-bytes;
       each-works = each-works;
-      each-reported = effect-begun;
+      each-reported = reported;
       as-carried-out = as-carried-out;
       and-since-the-last-erase = and-since-the-last-erase;
       change-places = programs-exchanged;

@@ -10,9 +10,9 @@ use Rattle.sheet.specs.declared.device.Device.{Device}
 use Rattle.sheet.specs.Device.{awake, unsound}
 use Rattle.part.specs.Operations.{Operation}
 use Rattle.lent.specs.declared.refusal.Lengths.{Lengths}
-use Rattle.part.specs.Frame.{Call, Result, Meets, call, lent, refused, replied, frame}
+use Rattle.part.specs.Frame.{Call, Reply, Result, Meets, call, lent, refused, replied, frame}
 use Rattle.part.specs.Effect.{takesEffect, operationOf}
-use Rattle.series.specs.Turns.{Turn, replyTo, effectOf, replies, operations, lastRecord}
+use Rattle.series.specs.Turns.{Turn, replyTo, replies, operations, lastRecord}
 use Rattle.series.specs.Series.{Step, State, Made, turnsOf, lentTo, left, results, end, madeOf, Ran}
 use Rattle.series.specs.Bytes.{Program, applied, since, bytesAt, andAll, startAt, programOf, allWork}
 
@@ -57,7 +57,7 @@ pub record Promises : Type 0 where
       × (effects ss t ≡ effects also u)
   -- What takes effect is a program or an erase, and is reported as begun;
   pub each-works : (ts : List Turn) (d : Device) → allWork (operations ts d) ≡ true
-  pub each-reported : (t : Turn) (d : Device) → effectOf t d ≢ [] → replyTo t d .outcome ≡ "begun"
+  pub each-reported : (t : Turn) (d : Device) → operations (t ∷ []) d ≢ [] → map (λ (r : Reply). r .outcome) (replies (t ∷ []) d) ≡ "begun" ∷ []
   -- the array after the series is the array before it with the operations that took effect carried out in order.
   pub as-carried-out : (ss : List Step) (t : State) → end ss t .array ≡ applied (effects ss t) (t .array)
   -- Each byte afterwards is the AND of all bytes programmed at it since the last erase that covered it, starting from FFh, or from its

@@ -1,11 +1,11 @@
 -- What holds of each answer that judging can give holds of judging: one law, and its uses. Assumes nothing.
-use Prim.Native.Nat.{_+_, _≤_}
+use Prim.Native.Nat.{ℕ, _+_, _≤_}
 use mathlib.Core.Bool.{Bool, true, false, true≢false, false≢true, cond, not, _&&_, _||_, and-true, and-false, and-eq-true-iff, Bool·beq}
 use mathlib.Core.Logic.{_≢_}
 use mathlib.Core.Path.{_≡_, refl, sym, ap, subst, _∙_}
 use native.Mathlib.Decide.{ℕ-discrete}
 use native.Mathlib.Omega.{arith}
-use borrow.Author.Tests.{eq-eqb, ne-eqb}
+use borrow.Author.Tests.{ltb-false, eq-eqb, ne-eqb}
 use lib.Dec.{ltb, eqb}
 use Rattle.opcodes.specs.declared.Row.{Row}
 use Rattle.opcodes.specs.declared.Command.{Command}
@@ -31,101 +31,81 @@ use Rattle.sheet.specs.declared.judge.Action.{Action}
 use Rattle.sheet.specs.Begins.{changesArray, asksFor}
 use Rattle.sheet.specs.Device.{awake, deep, ultraDeep, isBusy, unsound, latched, dropped, moved, woken, reset}
 use Rattle.sheet.specs.Judging.{quiet, nothing, control, aborted, driven, read, eraseKind, programKind, barred, ordered, carried, obeyed, complete, byOpcode, asleep, onBoundary, judged}
+use Rattle.sheet.proofs.Records.{sound-then, then-sound}
 
--- the record stays one that is accepted, if the part is awake afterwards
-stays-awake : (long busy up : Bool) → (long || (busy && not up)) ≡ false → (long || (busy && not true)) ≡ false
-stays-awake true busy up e = e
-stays-awake false busy up e = and-false busy
+-- A frame is heard: the part is awake, and idle unless a busy part answers the row.
+pub record Heard (d : Device) (r : Row) : Type 0 where
+  pub up : awake (d .mode) ≡ true
+  pub answers : (isBusy d && not (r .busy)) ≡ false
 
--- or was idle
-stays-idle : (long busy up : Bool) → busy ≡ false → (long || (busy && not up)) ≡ false → (long || (busy && not false)) ≡ false
-stays-idle true busy up i e = e
-stays-idle false busy up i e = rw i
-
--- a part that hears a row which a busy part does not answer is idle
-idle-then : (busy answers : Bool) → Bool·beq answers false ≡ true → (busy && not answers) ≡ false → busy ≡ false
-idle-then busy true n e = absurd (false≢true n)
-idle-then busy false n e = sym (and-true busy) ∙ e
-
--- An answer is quiet, with a record that is accepted if the one before it was; or a read; or a command that an awake part carried out.
-module _ (d : Device) (s : Settings) (f : Facts) (P : Judged → Type 0)
-    (quietly : (outcome : Outcome) (e : Device) → (unsound d ≡ false → unsound e ≡ false) → P (quiet outcome e))
+-- An answer is nothing, a waking from either sleep, an abort, or what the command of a heard frame gives.
+module _ (d : Device) (s : Settings) (f : Facts) (P : Judged → Type 0) (still : P (nothing d)) (waking : ultraDeep (d .mode) ≡ true → P (control (woken d)))
+    (rousing : deep (d .mode) ≡ true → P (control (moved d Awake))) (aborting : P (aborted d))
     (reading : (source : Source) → rowOf (f .code) .command ≡ Reads source → P (read (rowOf (f .code)) source d f))
-    (carrying : (work : Work) → rowOf (f .code) .command ≡ Works work → awake (d .mode) ≡ true → P (carried work d s f)) where
+    (ordering : (order : Order) → rowOf (f .code) .command ≡ Orders order → Heard d (rowOf (f .code)) → P (ordered order d f))
+    (carrying : (work : Work) → rowOf (f .code) .command ≡ Works work → Heard d (rowOf (f .code)) → barred work d f ≡ false → P (carried work d s f)) where
   choice : (b : Bool) (x y : Judged) → (b ≡ true → P x) → (b ≡ false → P y) → P (cond b x y)
   choice true x y p q = p refl
   choice false x y p q = q refl
 
-  as-it-was : P (nothing d)
-  as-it-was = quietly Outcome.Nothing d (λ h. h)
-
-  gives-up : P (aborted d)
-  gives-up = quietly Outcome.Aborted (dropped d) (λ h. h)
-
-  -- to sleep goes an idle part only
-  sleeping : (order : Order) (mode : Mode) → orderedWhileBusy order ≡ false → awake mode ≡ false → rowOf (f .code) .command ≡ Orders order
-      → (isBusy d && not (rowOf (f .code) .busy)) ≡ false → P (control (moved d mode))
-  sleeping order mode o m e h =
-      let r = rowOf (f .code) in
-      let kept : ruleOf (Orders order) r ≡ true = subst (λ (c : Command). ruleOf c r ≡ true) e (rule-kept (f .code)) in
-      let answers : Bool·beq (r .busy) (orderedWhileBusy order) ≡ true =
-      and-eq-true-iff (r .boundary && not (r .latch)) _ .0 (and-eq-true-iff _ (eqb (r .most) 0) .0 kept .0) .1 in
-      quietly Outcome.Control (moved d mode)
-      (λ u. rw m (stays-idle (ltb longest (d .busy)) (isBusy d) (awake (d .mode)) (idle-then (isBusy d) (r .busy) (rw o at answers) h) u))
-
-  of-order : (order : Order) → rowOf (f .code) .command ≡ Orders order → (isBusy d && not (rowOf (f .code) .busy)) ≡ false → P (ordered order d f)
-  of-order Enable e h = quietly Outcome.Control (latched d) (λ u. u)
-  of-order Disable e h = quietly Outcome.Control (dropped d) (λ u. u)
-  of-order DeepPowerDown e h = sleeping DeepPowerDown Deep refl refl e h
-  of-order UltraDeepPowerDown e h = sleeping UltraDeepPowerDown UltraDeep refl refl e h
-  of-order Resume e h = as-it-was
-  of-order Reset e h =
-      choice (d .rste && eqb (f .second) 0xD0) (control (reset d)) (nothing d) (λ t. quietly Outcome.Control (reset d) (λ u. refl)) (λ t. as-it-was)
-
-  of-command : (command : Command) → rowOf (f .code) .command ≡ command → awake (d .mode) ≡ true → (isBusy d && not (rowOf (f .code) .busy)) ≡ false
-      → P (obeyed command (rowOf (f .code)) d s f)
-  of-command Unlisted e w h = as-it-was
-  of-command (Reads source) e w h = reading source e
-  of-command (Orders order) e w h = of-order order e h
-  of-command (Works work) e w h = choice (barred work d f) (aborted d) (carried work d s f) (λ t. gives-up) (λ t. carrying work e w)
+  of-command : (command : Command) → rowOf (f .code) .command ≡ command → Heard d (rowOf (f .code)) → P (obeyed command (rowOf (f .code)) d s f)
+  of-command Unlisted e h = still
+  of-command (Reads source) e h = reading source e
+  of-command (Orders order) e h = ordering order e h
+  of-command (Works work) e h = choice (barred work d f) (aborted d) (carried work d s f) (λ t. aborting) (carrying work e h)
 
   of-opcode : (r : Row) → P (obeyed (r .command) r d s f) → P (byOpcode r d s f)
   unfolding byOpcode
   of-opcode r p =
-      choice (r .latch && not (d .wel)) (nothing d) (cond (complete r f) (obeyed (r .command) r d s f) (cond (r .latch) (aborted d) (nothing d)))
-      (λ t. as-it-was)
+      choice (r .latch && not (d .wel)) (nothing d) (cond (complete r f) (obeyed (r .command) r d s f) (cond (r .latch) (aborted d) (nothing d))) (λ t. still)
       (λ t.
       choice (complete r f) (obeyed (r .command) r d s f) (cond (r .latch) (aborted d) (nothing d)) (λ t. p)
-      (λ t. choice (r .latch) (aborted d) (nothing d) (λ t. gives-up) (λ t. as-it-was)))
+      (λ t. choice (r .latch) (aborted d) (nothing d) (λ t. aborting) (λ t. still)))
 
   neither : (m : Mode) → ultraDeep m ≡ false → deep m ≡ false → awake m ≡ true
   neither Awake u e = refl
   neither Deep u e = absurd (true≢false e)
   neither UltraDeep u e = absurd (true≢false u)
 
-  -- woken, from either sleep
-  wakes : (e : Device) → e .mode ≡ Awake → e .busy ≡ d .busy → P (control e)
-  wakes e m b = quietly Outcome.Control e (λ u. rw (m, b) (stays-awake (ltb longest (d .busy)) (isBusy d) (awake (d .mode)) u))
-
   pub each-answer : P (judged d s f)
   unfolding judged
   each-answer =
       let r = rowOf (f .code) in
       let heard = cond (isBusy d && not (r .busy)) (nothing d) (byOpcode r d s f) in
-      choice (ultraDeep (d .mode)) (control (woken d)) (cond (ltb (f .bits) 8) (nothing d) (cond (deep (d .mode)) (asleep d f) heard))
-      (λ t. wakes (woken d) refl refl)
+      choice (ultraDeep (d .mode)) (control (woken d)) (cond (ltb (f .bits) 8) (nothing d) (cond (deep (d .mode)) (asleep d f) heard)) waking
       (λ u.
-      choice (ltb (f .bits) 8) (nothing d) (cond (deep (d .mode)) (asleep d f) heard) (λ t. as-it-was)
+      choice (ltb (f .bits) 8) (nothing d) (cond (deep (d .mode)) (asleep d f) heard) (λ t. still)
       (λ t.
       choice (deep (d .mode)) (asleep d f) heard
-      (λ t. choice (eqb (f .code) 0xAB && onBoundary f) (control (moved d Awake)) (nothing d) (λ t. wakes (moved d Awake) refl refl) (λ t. as-it-was))
+      (λ e. choice (eqb (f .code) 0xAB && onBoundary f) (control (moved d Awake)) (nothing d) (λ t. rousing e) (λ t. still))
       (λ e.
-      choice (isBusy d && not (r .busy)) (nothing d) (byOpcode r d s f) (λ t. as-it-was)
-      (λ h. of-opcode r (of-command (r .command) refl (neither (d .mode) u e) h)))))
+      choice (isBusy d && not (r .busy)) (nothing d) (byOpcode r d s f) (λ t. still)
+      (λ a. of-opcode r (of-command (r .command) refl (record { up = neither (d .mode) u e; answers = a }))))))
+
+-- The same for what does not care how a quiet answer came about: an answer is quiet, a read, or a command carried out.
+module _ (d : Device) (s : Settings) (f : Facts) (P : Judged → Type 0) (quietly : (outcome : Outcome) (e : Device) → P (quiet outcome e))
+    (reading : (source : Source) → rowOf (f .code) .command ≡ Reads source → P (read (rowOf (f .code)) source d f))
+    (carrying : (work : Work) → rowOf (f .code) .command ≡ Works work → P (carried work d s f)) where
+  of-order : (order : Order) → P (ordered order d f)
+  of-order Enable = quietly Outcome.Control (latched d)
+  of-order Disable = quietly Outcome.Control (dropped d)
+  of-order DeepPowerDown = quietly Outcome.Control (moved d Deep)
+  of-order UltraDeepPowerDown = quietly Outcome.Control (moved d UltraDeep)
+  of-order Resume = quietly Outcome.Nothing d
+  of-order Reset = by (d .rste && eqb (f .second) 0xD0)
+    where
+      by : (b : Bool) → P (cond b (control (reset d)) (nothing d))
+      by true = quietly Outcome.Control (reset d)
+      by false = quietly Outcome.Nothing d
+
+  pub each-kind : P (judged d s f)
+  each-kind =
+      each-answer d s f P (quietly Outcome.Nothing d) (λ u. quietly Outcome.Control (woken d)) (λ e. quietly Outcome.Control (moved d Awake))
+      (quietly Outcome.Aborted (dropped d)) reading (λ order e h. of-order order) (λ work e h b. carrying work e)
 
 -- no position behind the frame's last one is driven
 pub within : (d : Device) (s : Settings) (f : Facts) → judged d s f .first + judged d s f .driven ≤ f .bytes
-within d s f = each-answer d s f (λ (j : Judged). j .first + j .driven ≤ f .bytes) (λ o e h. omega arith) of-read of-work
+within d s f = each-kind d s f (λ (j : Judged). j .first + j .driven ≤ f .bytes) (λ o e. omega arith) of-read (λ work e. of-work work)
   where
     of-read : (source : Source) → rowOf (f .code) .command ≡ Reads source
         → read (rowOf (f .code)) source d f .first + read (rowOf (f .code)) source d f .driven ≤ f .bytes
@@ -135,31 +115,78 @@ within d s f = each-answer d s f (λ (j : Judged). j .first + j .driven ≤ f .b
         by (yes z) = rw (eq-eqb (driven (rowOf (f .code)) f) 0 z) (omega arith)
         by (no z) = rw (ne-eqb (driven (rowOf (f .code)) f) 0 z) (omega arith)
 
-    of-work : (work : Work) → rowOf (f .code) .command ≡ Works work → awake (d .mode) ≡ true → carried work d s f .first + carried work d s f .driven ≤ f .bytes
-    of-work Work.Program e w = omega arith
-    of-work (Work.Erase region) e w = omega arith
-    of-work Work.Otp e w = omega arith
-    of-work Work.WriteStatus e w = omega arith
-    of-work Work.WriteStatusTwo e w = omega arith
+    of-work : (work : Work) → carried work d s f .first + carried work d s f .driven ≤ f .bytes
+    of-work Work.Program = omega arith
+    of-work (Work.Erase region) = omega arith
+    of-work Work.Otp = omega arith
+    of-work Work.WriteStatus = omega arith
+    of-work Work.WriteStatusTwo = omega arith
 
 -- what works on the array is what the opcode asks for, and its outcome is begun
 abbrev Faithful : Facts → Judged → Type 0
 Faithful f j = changesArray (j .action) ≡ true → (j .action ≡ asksFor (rowOf (f .code) .command)) × (j .outcome ≡ Outcome.Begun)
 
 pub as-asked : (d : Device) (s : Settings) (f : Facts) → Faithful f (judged d s f)
-as-asked d s f = each-answer d s f (Faithful f) (λ o e h c. absurd (false≢true c)) (λ source e c. absurd (false≢true c)) of-work
+as-asked d s f = each-kind d s f (Faithful f) (λ o e c. absurd (false≢true c)) (λ source e c. absurd (false≢true c)) of-work
   where
-    of-work : (work : Work) → rowOf (f .code) .command ≡ Works work → awake (d .mode) ≡ true → Faithful f (carried work d s f)
-    of-work Work.Program e w c = (sym (ap asksFor e), refl)
-    of-work (Work.Erase region) e w c = (sym (ap asksFor e), refl)
-    of-work Work.Otp e w c = absurd (false≢true c)
-    of-work Work.WriteStatus e w c = absurd (false≢true c)
-    of-work Work.WriteStatusTwo e w c = absurd (false≢true c)
+    of-work : (work : Work) → rowOf (f .code) .command ≡ Works work → Faithful f (carried work d s f)
+    of-work Work.Program e c = (sym (ap asksFor e), refl)
+    of-work (Work.Erase region) e c = (sym (ap asksFor e), refl)
+    of-work Work.Otp e c = absurd (false≢true c)
+    of-work Work.WriteStatus e c = absurd (false≢true c)
+    of-work Work.WriteStatusTwo e c = absurd (false≢true c)
+
+-- a reset touches no memory, carried out or not
+pub reset-still : (d : Device) (s : Settings) (f : Facts) → rowOf (f .code) .command ≡ Orders Reset → judged d s f .action ≡ Action.Still
+reset-still d s f r =
+    each-kind d s f (λ (j : Judged). j .action ≡ Action.Still) (λ o e. refl) (λ source e. absurd (true≢false (ap isOrder (sym r ∙ e))))
+    (λ work e. absurd (true≢false (ap isOrder (sym r ∙ e))))
+  where
+    isOrder : Command → Bool
+    isOrder Unlisted = false
+    isOrder (Reads source) = false
+    isOrder (Orders order) = true
+    isOrder (Works work) = false
+
+-- a control command that a busy part does not answer finds the part idle
+idle-order : (d : Device) (code : ℕ) (order : Order) → rowOf code .command ≡ Orders order → orderedWhileBusy order ≡ false → Heard d (rowOf code) → isBusy d ≡ false
+idle-order d code order e o h =
+    let r = rowOf code in
+    let kept : ruleOf (Orders order) r ≡ true = subst (λ (c : Command). ruleOf c r ≡ true) e (rule-kept code) in
+    let answers : Bool·beq (r .busy) (orderedWhileBusy order) ≡ true =
+    and-eq-true-iff (r .boundary && not (r .latch)) _ .0 (and-eq-true-iff _ (eqb (r .most) 0) .0 kept .0) .1 in
+    by (r .busy) (rw o at answers) (h .answers)
+  where
+    by : (b : Bool) → Bool·beq b false ≡ true → (isBusy d && not b) ≡ false → isBusy d ≡ false
+    by true n a = absurd (false≢true n)
+    by false n a = sym (and-true (isBusy d)) ∙ a
 
 -- a record that is accepted gives one that is accepted, if the settings are
 pub stays-sound : (d : Device) (s : Settings) (f : Facts) → unsound d ≡ false → anyUnfair (s .ticks) ≡ false → unsound (judged d s f .device) ≡ false
-stays-sound d s f u fair = each-answer d s f (λ (j : Judged). unsound (j .device) ≡ false) (λ o e h. h u) (λ source e. u) (λ work e w. of-work work w)
+stays-sound d s f u fair =
+    each-answer d s f (λ (j : Judged). unsound (j .device) ≡ false) u (λ m. awoken) (λ m. awoken) u (λ source e. u) of-order (λ work e h b. of-work work (h .up))
   where
+    awoken : unsound (moved d Awake) ≡ false
+    awoken = then-sound (moved d Awake) (record { short = sound-then d u .short; idle = λ n. absurd (true≢false n) })
+
+    asleep : (mode : Mode) (order : Order) → rowOf (f .code) .command ≡ Orders order → orderedWhileBusy order ≡ false → Heard d (rowOf (f .code))
+        → unsound (moved d mode) ≡ false
+    asleep mode order e o h =
+        let none : d .busy ≤ 0 = ltb-false 0 (d .busy) (idle-order d (f .code) order e o h) in
+        then-sound (moved d mode) (record { short = sound-then d u .short; idle = λ n. omega arith })
+
+    of-order : (order : Order) → rowOf (f .code) .command ≡ Orders order → Heard d (rowOf (f .code)) → unsound (ordered order d f .device) ≡ false
+    of-order Enable e h = u
+    of-order Disable e h = u
+    of-order DeepPowerDown e h = asleep Deep DeepPowerDown e refl h
+    of-order UltraDeepPowerDown e h = asleep UltraDeep UltraDeepPowerDown e refl h
+    of-order Resume e h = u
+    of-order Reset e h = by (d .rste && eqb (f .second) 0xD0)
+      where
+        by : (b : Bool) → unsound (cond b (control (reset d)) (nothing d) .device) ≡ false
+        by true = refl
+        by false = u
+
     begins : (kind : Kind) → awake (d .mode) ≡ true → (ltb longest (durationOf s kind) || (ltb 0 (durationOf s kind) && not (awake (d .mode)))) ≡ false
     begins kind w = rw (none-longer (s .ticks) (placeOf kind) fair, w) (and-false (ltb 0 (durationOf s kind)))
 
@@ -169,20 +196,3 @@ stays-sound d s f u fair = each-answer d s f (λ (j : Judged). unsound (j .devic
     of-work Work.Otp w = begins Kind.OtpProgram w
     of-work Work.WriteStatus w = begins Kind.StatusWrite w
     of-work Work.WriteStatusTwo w = u
-
--- a reset touches no memory, carried out or not
-pub reset-still : (d : Device) (s : Settings) (f : Facts) → rowOf (f .code) .command ≡ Orders Reset → judged d s f .action ≡ Action.Still
-reset-still d s f r =
-    each-answer d s f (λ (j : Judged). j .action ≡ Action.Still) (λ o e h. refl) (λ source e. absurd (differs (sym r ∙ e))) (λ work e w. absurd (works (sym r ∙ e)))
-  where
-    isOrder : Command → Bool
-    isOrder Unlisted = false
-    isOrder (Reads source) = false
-    isOrder (Orders order) = true
-    isOrder (Works work) = false
-
-    differs : {source : Source} → Orders Reset ≢ Reads source
-    differs e = true≢false (ap isOrder e)
-
-    works : {work : Work} → Orders Reset ≢ Works work
-    works e = true≢false (ap isOrder e)

@@ -1,3 +1,3 @@
 pub mod Begins
-pub mod Leaves
 pub mod Records
+pub mod Leaves
