@@ -22,11 +22,16 @@ abbrev pub lookedAt : Memory → List ℕ → List ℕ → ℕ → ℕ → List 
 lookedAt Memory.Array array register address count = cond (isArray (length array)) (partOf array address count) []
 lookedAt Memory.Register array register address count = cond (isRegister (length register)) (partOf register address count) []
 
+-- where in the chosen memory it begins, from the two lengths
+abbrev pub startIn : Memory → ℕ → ℕ → ℕ → ℕ
+startIn Memory.Array array register address = cond (isArray array) (address % array) 0
+startIn Memory.Register array register address = cond (isRegister register) (address % register) 0
+
 -- where it lies: a place of the machine's memory is a block and an offset in it; so many bytes behind a place
 abbrev pub behind : ℕ × ℕ → ℕ → ℕ × ℕ
 behind place n = (place .0, n + place .1)
 
 -- in the chosen memory itself, at the part's start; the empty part for a wrong length begins where that memory does
 abbrev pub lookedFrom : Memory → ℕ × ℕ → ℕ × ℕ → List ℕ → List ℕ → ℕ → ℕ × ℕ
-lookedFrom Memory.Array a r array register address = behind a (cond (isArray (length array)) (startOf array address) 0)
-lookedFrom Memory.Register a r array register address = behind r (cond (isRegister (length register)) (startOf register address) 0)
+lookedFrom Memory.Array a r array register address = behind a (startIn Memory.Array (length array) (length register) address)
+lookedFrom Memory.Register a r array register address = behind r (startIn Memory.Register (length array) (length register) address)

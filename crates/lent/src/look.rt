@@ -4,9 +4,9 @@ use crate::refusal::is_register;
 ghost use mathlib.Core.Bool.{true, cond};
 ghost use mathlib.Core.List.{[]};
 ghost use mathlib.Core.Path.{_≡_};
-ghost use Prim.Native.Nat.{_<_};
+ghost use Prim.Native.Nat.{_%_, _<_};
 ghost use lib.ListN.{length};
-ghost use Rattle.lent.specs.Look.{startOf, partOf, behind, lookedAt, lookedFrom};
+ghost use Rattle.lent.specs.Look.{startOf, partOf, startIn, behind, lookedAt, lookedFrom};
 ghost use denote.Ref.{ptr};
 
 // Which of the lent memories.
@@ -51,5 +51,23 @@ pub fn look<'a>(
     match memory {
         Memory::Array => part(array, is_array(array.len()), address, count),
         Memory::Register => part(register, is_register(register.len()), address, count),
+    }
+}
+
+// Where a memory of that length begins to be looked at; at its first byte if the length is not right.
+fn start(length: usize, right: bool, address: usize) -> usize
+    requires { ⌜ (right ≡ true → 0 < length) ⌝ }
+    ensures { λ r. ⌜ r ≡ cond right (address % length) 0 ⌝ }
+{
+    if right { address % length } else { 0 }
+}
+
+// Where in the chosen memory a look begins, for those who have no part of it to hold, but only numbers.
+pub fn look_start(array: usize, register: usize, memory: Memory, address: usize) -> usize
+    ensures { λ r. ⌜ r ≡ startIn memory array register address ⌝ }
+{
+    match memory {
+        Memory::Array => start(array, is_array(array), address),
+        Memory::Register => start(register, is_register(register), address),
     }
 }

@@ -1,0 +1,35 @@
+-- What is known of words that stand for a call. Assumes nothing.
+use Prim.Native.Nat.{ℕ}
+use mathlib.Core.Bool.{true, _&&_, and-eq-true-iff}
+use mathlib.Core.List.{List}
+use mathlib.Core.Path.{_≡_, ap}
+use borrow.Author.Tests.{eqb-true}
+use lib.ListN.{length}
+use Rattle.settings.specs.declared.Settings.{Settings}
+use Rattle.sheet.specs.declared.device.Device.{Device}
+use Rattle.part.specs.declared.frame.Signals.{Signals}
+use Rattle.part.specs.declared.frame.Answer.{Answer}
+use Rattle.part.specs.Frame.{Lent, call, frame, replyOf, Meets}
+use Rattle.packing.specs.Packing.{packed, isRecord, deviceOf, isSettings, settingsOf, isSignals, signalsOf, isAnswer, answerOf}
+use Rattle.packing.proofs.Records.{record-right}
+use Rattle.oxterin.specs.Face.{Handed, isCall, callOf, left, told}
+
+-- each slice of a call has its length
+pub record Long (h : Handed) : Type 0 where
+  pub device : length (h .device) ≡ 7
+  pub settings : length (h .settings) ≡ 8
+  pub answer : length (h .answer) ≡ 3
+
+pub long : (h : Handed) → isCall h ≡ true → Long h
+long h right =
+    let all = and-eq-true-iff (isRecord (h .device) && isSettings (h .settings) && isSignals (h .signals)) (isAnswer (length (h .answer))) .0 right in
+    let three = and-eq-true-iff (isRecord (h .device) && isSettings (h .settings)) (isSignals (h .signals)) .0 (all .0) in
+    let two = and-eq-true-iff (isRecord (h .device)) (isSettings (h .settings)) .0 (three .0) in
+    record { device = record-right (h .device) (two .0) .long; settings = eqb-true _ _ (two .1); answer = eqb-true _ _ (all .1) }
+
+-- a frame's result, told as words, is the face's
+pub as-told : (h : Handed) (m n : Lent) (d : Device) (s : Settings) (g : Signals) (a : Answer) (number : ℕ) (device answer : List ℕ)
+    → d ≡ deviceOf (h .device) → s ≡ settingsOf (h .settings) → g ≡ signalsOf (h .signals) → Meets (call d s (h .input) g) m a n
+    → number ≡ replyOf a .refusal → device ≡ packed (replyOf a .device) → answer ≡ answerOf (replyOf a)
+    → left number device answer n ≡ told (frame (callOf h) m)
+as-told h m n d s g a number device answer p q t e x y z = rw (x, y, z, ← p, ← q, ← t) (ap told e)

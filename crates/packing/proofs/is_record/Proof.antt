@@ -1,0 +1,21 @@
+-- `packing::is_record` meets its contract: the words are tested one by one. Assumes nothing.
+use Rattle.packing.specs.Packing.{isRecord}
+use borrow.Author.Needs.{needs}
+use Rattle.packing.proofs.is_record.Statement.{statement}
+use Rattle.packing.proofs.is_record.Tie as tie
+
+returns : tie.Need-returns
+unfolding isRecord
+returns c = rw (c .word6 .ensures, c .before .word5 .ensures, c .before .before .word4 .ensures, c .before .before .before .word3 .ensures, c .before .before .before .before .word2 .ensures, c .before .before .before .before .before .word .ensures)
+
+pub is-record-spec : {M : Type 1} → statement M
+is-record-spec =
+    tie.close
+    (tie.spec
+    (λ c κs. search needs)
+    (λ c κs. search needs)
+    (λ c κs. search needs)
+    (λ c κs. search needs)
+    (λ c κs. search needs)
+    (λ c κs. search needs)
+    returns)

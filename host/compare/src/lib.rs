@@ -1,0 +1,1 @@
+//! The proved part beside the independent model.

@@ -1,0 +1,239 @@
+//! The clocked machine: two shift registers, an address counter and a phase
+//! that moves on at byte boundaries. It only gathers; nothing changes here.
+
+use crate::decoder::{decode, Change, Command, Control, Source};
+use crate::page::{PageBuffer, OTP_PLACES, PAGE};
+use crate::record::Record;
+use crate::view::wired;
+
+/// What the next whole byte means to the machine.
+#[derive(Clone, Copy, Debug, PartialEq, Eq)]
+enum Phase {
+    /// The opcode is still being clocked in.
+    Opcode,
+    /// That many address bytes are still to come.
+    Address(u8),
+    /// That many filler bytes are still to come.
+    Filler(u8),
+    /// Input is ignored; the source feeds the output.
+    Drive(Source),
+    /// Bytes go to the page buffer.
+    Collect,
+    /// One byte goes to the operand.
+    Operand,
+    /// All the command needs has come, or the opcode was not heard.
+    Rest,
+}
+
+/// The part's interface logic while chip select is low.
+pub(crate) struct Machine<'a> {
+    /// The record at the fall of chip select.
+    record: Record,
+    /// The status bytes at the fall of chip select.
+    status: [u8; 2],
+    /// The main array, to read from.
+    array: &'a [u8],
+    /// The security register, to read from.
+    register: &'a [u8],
+    /// What the next whole byte means.
+    phase: Phase,
+    /// The byte being clocked in, from the low end.
+    shift_in: u8,
+    /// The byte being clocked out, from the high end; 1s where undriven.
+    shift_out: u8,
+    /// Bits clocked since the last byte boundary.
+    bits: u8,
+    /// Whole bytes clocked.
+    position: usize,
+    /// The command heard in the opcode, if any.
+    command: Option<Command>,
+    /// Address sent, or 0, then counting up with each byte driven.
+    address: usize,
+    /// The program data so far.
+    page: PageBuffer,
+    /// The byte after the opcode, if the command takes one.
+    operand: u8,
+    /// First position driven, 0 if none so far.
+    first: usize,
+    /// Positions driven so far.
+    driven: usize,
+}
+
+/// What the machine knows when chip select rises.
+pub(crate) struct Gathered {
+    /// The command heard, if any.
+    pub(crate) command: Option<Command>,
+    /// Chip select rose on a byte boundary with all needed bytes clocked in.
+    pub(crate) complete: bool,
+    /// The address of a changing command, all sent bits of it.
+    pub(crate) address: usize,
+    /// The program data.
+    pub(crate) page: PageBuffer,
+    /// The byte after the opcode of a status write or reset.
+    pub(crate) operand: u8,
+    /// First position driven, 0 if none.
+    pub(crate) first: usize,
+    /// How many positions were driven.
+    pub(crate) driven: usize,
+}
+
+impl<'a> Machine<'a> {
+    /// Chip select falls; the status bytes are taken as they stand now.
+    pub(crate) fn fall(record: Record, wp_high: bool, array: &'a [u8], register: &'a [u8]) -> Machine<'a> {
+        Machine {
+            record,
+            status: record.status(wp_high),
+            array,
+            register,
+            phase: Phase::Opcode,
+            shift_in: 0,
+            shift_out: 0xFF,
+            bits: 0,
+            position: 0,
+            command: None,
+            address: 0,
+            page: PageBuffer::aimed_at(0, PAGE),
+            operand: 0,
+            first: 0,
+            driven: 0,
+        }
+    }
+
+    /// One clock pulse: takes the level on the input line, gives that on the
+    /// output line.
+    pub(crate) fn clock(&mut self, level: bool) -> bool {
+        if self.bits == 0 {
+            self.load_output();
+        }
+        let answer = self.shift_out & 0x80 != 0;
+        self.shift_out = (self.shift_out << 1) | 1;
+        self.shift_in = (self.shift_in << 1) | u8::from(level);
+        self.bits += 1;
+        if self.bits == 8 {
+            self.bits = 0;
+            self.position += 1;
+            self.phase = self.follow(self.shift_in);
+        }
+        answer
+    }
+
+    /// Chip select rises.
+    pub(crate) fn rise(self) -> Gathered {
+        Gathered {
+            command: self.command,
+            complete: self.is_complete(),
+            address: self.address,
+            page: self.page,
+            operand: self.operand,
+            first: self.first,
+            driven: self.driven,
+        }
+    }
+
+    /// Whether a control or changing command has come to its end in order.
+    fn is_complete(&self) -> bool {
+        let supplied = match self.phase {
+            Phase::Rest => true,
+            Phase::Collect => self.page.sent() > 0,
+            _ => false,
+        };
+        self.bits == 0 && supplied
+    }
+
+    /// At the first bit of a byte, loads the output register if the part
+    /// drives this position, and counts the position.
+    fn load_output(&mut self) {
+        let Some(byte) = self.next_output() else {
+            self.shift_out = 0xFF;
+            return;
+        };
+        if self.driven == 0 {
+            self.first = self.position;
+        }
+        self.driven += 1;
+        self.address += 1;
+        self.shift_out = byte;
+    }
+
+    /// The byte the source has at the address counter, if it has one.
+    fn next_output(&self) -> Option<u8> {
+        let Phase::Drive(source) = self.phase else {
+            return None;
+        };
+        match source {
+            Source::Array => Some(round(self.array, self.address)),
+            Source::Register => Some(round(self.register, self.address)),
+            Source::Status => Some(round(&self.status, self.address)),
+            Source::Fixed(bytes) => bytes.get(self.address).copied(),
+        }
+    }
+
+    /// Takes in a whole byte and gives the phase for the next one.
+    fn follow(&mut self, byte: u8) -> Phase {
+        match self.phase {
+            Phase::Opcode => self.begin(byte),
+            Phase::Address(left) => self.extend_address(byte, left),
+            Phase::Filler(1) => self.data_phase(),
+            Phase::Filler(left) => Phase::Filler(left - 1),
+            Phase::Collect => {
+                self.page.take(byte);
+                Phase::Collect
+            }
+            Phase::Operand => {
+                self.operand = byte;
+                Phase::Rest
+            }
+            Phase::Drive(_) | Phase::Rest => self.phase,
+        }
+    }
+
+    /// The opcode is in: decodes it and gives the phase after it.
+    fn begin(&mut self, opcode: u8) -> Phase {
+        self.command = decode(opcode, &self.record);
+        match self.command {
+            Some(command) if command.is_addressed() => Phase::Address(3),
+            _ => self.filler_phase(),
+        }
+    }
+
+    /// Shifts an address byte into the address counter, the high one first.
+    fn extend_address(&mut self, byte: u8, left: u8) -> Phase {
+        self.address = (self.address << 8) | usize::from(byte);
+        if left > 1 {
+            Phase::Address(left - 1)
+        } else {
+            self.filler_phase()
+        }
+    }
+
+    /// The phase once the address, if any, is in.
+    fn filler_phase(&mut self) -> Phase {
+        match self.command.map_or(0, Command::fillers) {
+            0 => self.data_phase(),
+            fillers => Phase::Filler(fillers),
+        }
+    }
+
+    /// The phase once opcode, address and fillers are in.
+    fn data_phase(&mut self) -> Phase {
+        match self.command {
+            Some(Command::Read(source, _)) => Phase::Drive(source),
+            Some(Command::Change(Change::Program)) => self.collect(PAGE),
+            Some(Command::Change(Change::OtpProgram)) => self.collect(OTP_PLACES),
+            Some(Command::Change(Change::Protection | Change::ResetEnable)) | Some(Command::Control(Control::Reset)) => Phase::Operand,
+            Some(Command::Change(Change::Erase(..)) | Command::Control(_)) | None => Phase::Rest,
+        }
+    }
+
+    /// Readies the page buffer for data from the address on.
+    fn collect(&mut self, places: usize) -> Phase {
+        self.page = PageBuffer::aimed_at(self.address, places);
+        Phase::Collect
+    }
+}
+
+/// The byte at an address counter that runs on from the last byte to byte 0,
+/// in a memory of a power-of-two length.
+fn round(bytes: &[u8], address: usize) -> u8 {
+    bytes[wired(address, bytes.len())]
+}

@@ -1,0 +1,166 @@
+//! What the rise of chip select does with what the machine gathered.
+
+use crate::decoder::{Change, Command, Control, Region};
+use crate::machine::Gathered;
+use crate::page::{OTP_PLACES, PAGE};
+use crate::record::{Mode, Operation, Record, Settings};
+use crate::view::wired;
+use crate::Outcome;
+
+/// The operand that confirms a reset.
+const RESET_KEY: u8 = 0xD0;
+
+/// The place of BPL in the operand of a write of status byte 1.
+const BPL_BIT: u8 = 1 << 7;
+
+/// The place of BP0 in the operand of a write of status byte 1.
+const BP0_BIT: u8 = 1 << 2;
+
+/// The place of RSTE in the operand of a write of status byte 2.
+const RSTE_BIT: u8 = 1 << 4;
+
+/// Ends a frame: the record afterwards, the outcome, and the memory changes.
+pub(crate) fn settle(
+    gathered: Gathered,
+    record: Record,
+    settings: &Settings,
+    wp_high: bool,
+    array: &mut [u8],
+    register: &mut [u8],
+) -> (Record, Outcome) {
+    if record.mode == Mode::UltraDeep {
+        return (roused(record), Outcome::Control);
+    }
+    match gathered.command {
+        None => (record, Outcome::Nothing),
+        Some(Command::Read(..)) => (record, Outcome::Read),
+        Some(Command::Control(control)) => {
+            obey(control, &gathered, record).map_or((record, Outcome::Nothing), |after| (after, Outcome::Control))
+        }
+        Some(Command::Change(change)) => {
+            let spent = record.latched(false);
+            let mut bench = Bench {
+                settings,
+                wp_high,
+                array,
+                register,
+            };
+            bench.attempt(change, &gathered, spent).unwrap_or((spent, Outcome::Aborted))
+        }
+    }
+}
+
+/// The record after waking from ultra-deep power-down.
+fn roused(record: Record) -> Record {
+    Record {
+        rste: false,
+        ..record.in_mode(Mode::Awake).latched(false)
+    }
+}
+
+/// The record after a control command, or none if it is not carried out.
+fn obey(control: Control, gathered: &Gathered, record: Record) -> Option<Record> {
+    if !gathered.complete {
+        return None;
+    }
+    match control {
+        Control::Latch(level) => Some(record.latched(level)),
+        Control::Sleep(mode) => Some(record.in_mode(mode)),
+        Control::Wake => Some(record.in_mode(Mode::Awake)),
+        Control::Reset => (gathered.operand == RESET_KEY).then(|| record.occupied(0).latched(false)),
+    }
+}
+
+/// What a changing command works on and is timed by.
+struct Bench<'a> {
+    /// The durations.
+    settings: &'a Settings,
+    /// Level of the write-protect pin.
+    wp_high: bool,
+    /// The main array.
+    array: &'a mut [u8],
+    /// The security register.
+    register: &'a mut [u8],
+}
+
+impl Bench<'_> {
+    /// Carries out a changing command on a record whose latch is already
+    /// spent, or gives none if it has to be aborted.
+    fn attempt(&mut self, change: Change, gathered: &Gathered, record: Record) -> Option<(Record, Outcome)> {
+        if !gathered.complete {
+            return None;
+        }
+        match change {
+            Change::Program => self.program(gathered, record),
+            Change::Erase(region, operation) => self.erase(region, operation, gathered.address, record),
+            Change::OtpProgram => self.program_otp(gathered, record),
+            Change::Protection => self.write_protection(gathered.operand, record),
+            Change::ResetEnable => Some(enable_reset(gathered.operand, record)),
+        }
+    }
+
+    /// Burns the page buffer into the page of the address, unless protected.
+    fn program(&mut self, gathered: &Gathered, record: Record) -> Option<(Record, Outcome)> {
+        if record.bp0 {
+            return None;
+        }
+        let operation = match gathered.page.sent() {
+            1 => Operation::OneByteProgram,
+            _ => Operation::LongerProgram,
+        };
+        gathered.page.burn(self.block(gathered.address, PAGE));
+        Some(self.begun(record, operation))
+    }
+
+    /// Sets a region to all 1s, unless protected.
+    fn erase(&mut self, region: Region, operation: Operation, address: usize, record: Record) -> Option<(Record, Outcome)> {
+        if record.bp0 {
+            return None;
+        }
+        match region {
+            Region::Block(size) => self.block(address, size).fill(0xFF),
+            Region::Chip => self.array.fill(0xFF),
+        }
+        Some(self.begun(record, operation))
+    }
+
+    /// Burns the page buffer into the user half of the register, one time.
+    fn program_otp(&mut self, gathered: &Gathered, record: Record) -> Option<(Record, Outcome)> {
+        if record.otp_used {
+            return None;
+        }
+        gathered.page.burn(&mut self.register[..OTP_PLACES]);
+        let used = Record { otp_used: true, ..record };
+        Some(self.begun(used, Operation::OtpProgram))
+    }
+
+    /// Writes status byte 1: a set BPL shields BP0, and with the pin low
+    /// itself as well.
+    fn write_protection(&self, operand: u8, record: Record) -> Option<(Record, Outcome)> {
+        if record.bpl && !self.wp_high {
+            return None;
+        }
+        let bp0 = if record.bpl { record.bp0 } else { operand & BP0_BIT != 0 };
+        let bpl = operand & BPL_BIT != 0;
+        Some(self.begun(Record { bpl, bp0, ..record }, Operation::StatusWrite))
+    }
+
+    /// The aligned block of that many array bytes around the address.
+    fn block(&mut self, address: usize, size: usize) -> &mut [u8] {
+        let inside = wired(address, self.array.len());
+        let start = inside - wired(inside, size);
+        &mut self.array[start..start + size]
+    }
+
+    /// The record made busy with an operation that took effect.
+    fn begun(&self, record: Record, operation: Operation) -> (Record, Outcome) {
+        let busy = self.settings.ticks(operation);
+        (record.occupied(busy), Outcome::Begun)
+    }
+}
+
+/// Writes status byte 2, which takes no time.
+fn enable_reset(operand: u8, record: Record) -> (Record, Outcome) {
+    let rste = operand & RSTE_BIT != 0;
+    (Record { rste, ..record }, Outcome::Control)
+}

@@ -1,0 +1,39 @@
+//! A simulated AT25XE011 whose every function is proved to answer as the data sheet's rules say.
+//!
+//! [`Part`] owns its memories; [`frame`] works on memories that you lend; [`raw`] is the face that C programs see, words and bytes.
+//! Time passes only as the caller says, in ticks that come with each frame.
+//!
+//! ```
+//! use oxterin::{Outcome, Part, Signals, Size};
+//!
+//! let mut part = Part::blank(Size::Whole);
+//! part.send(&[0x06])?; // write enable
+//! let erase = part.send(&[0x20, 0x00, 0x10, 0x00])?;
+//! assert_eq!(erase.answer.outcome, Outcome::Begun);
+//! assert_eq!(part.record.busy, 50_000);
+//!
+//! let poll = [0x05, 0x00];
+//! let later = Signals { elapsed: 50_000, ..Signals::whole(&poll) };
+//! assert_eq!(part.frame(&poll, later)?.output, [0xFF, 0x10]);
+//! # Ok::<(), oxterin::Refusal>(())
+//! ```
+#![deny(unsafe_code)]
+
+mod frame;
+mod part;
+pub mod raw;
+mod record;
+
+pub use frame::{frame, look, Answer, Memory, Outcome, Refusal, Signals};
+pub use part::{Exchange, ImageLength, Part, Size};
+pub use record::{Mode, Record, Settings};
+
+/// How the proved library in this program was built: for which machine, and by which way.
+pub const BUILT: &str = env!("OXTERIN_BUILT");
+
+/// The version of the proved face, such as `1.0.0`.
+#[must_use]
+pub fn version() -> String {
+    let number = raw::version();
+    format!("{}.{}.{}", number / 1_000_000, number / 1_000 % 1_000, number % 1_000)
+}

@@ -1,0 +1,162 @@
+//! A part that owns its memories.
+use crate::frame::{frame, look, Answer, Memory, Refusal, Signals};
+use crate::record::{Record, Settings};
+use std::error::Error;
+use std::fmt;
+
+/// The size of the main array.
+#[derive(Clone, Copy, Debug, PartialEq, Eq, Hash)]
+pub enum Size {
+    /// 65,536 bytes, for small programs on a bench.
+    Small,
+    /// 131,072 bytes, the AT25XE011's own.
+    Whole,
+}
+
+impl Size {
+    /// All sizes.
+    pub const ALL: [Size; 2] = [Size::Small, Size::Whole];
+
+    /// How many bytes.
+    #[must_use]
+    pub fn bytes(self) -> usize {
+        match self {
+            Size::Small => 65_536,
+            Size::Whole => 131_072,
+        }
+    }
+
+    /// The size with so many bytes, if there is one.
+    #[must_use]
+    pub fn of_bytes(bytes: usize) -> Option<Size> {
+        Size::ALL.into_iter().find(|size| size.bytes() == bytes)
+    }
+}
+
+/// An image whose length is not that of an array.
+#[derive(Clone, Copy, Debug, PartialEq, Eq, Hash)]
+pub struct ImageLength(
+    /// The length it has.
+    pub usize,
+);
+
+impl fmt::Display for ImageLength {
+    fn fmt(&self, f: &mut fmt::Formatter<'_>) -> fmt::Result {
+        write!(f, "an image has 65,536 or 131,072 bytes, and this one has {}", self.0)
+    }
+}
+
+impl Error for ImageLength {}
+
+/// What came of a frame: the output bytes, one for each input byte, and the answer.
+#[derive(Clone, Debug, PartialEq, Eq)]
+pub struct Exchange {
+    /// What each position read.
+    pub output: Vec<u8>,
+    /// Outcome and driven positions.
+    pub answer: Answer,
+}
+
+/// A part with its own array, security register, record and settings.
+///
+/// ```
+/// use oxterin::{Memory, Outcome, Part, Size};
+///
+/// let mut part = Part::blank(Size::Whole);
+/// part.send(&[0x06])?;
+/// let program = part.send(&[0x02, 0x00, 0x00, 0xFE, 0x11, 0x22, 0x33])?;
+/// assert_eq!(program.answer.outcome, Outcome::Begun);
+/// assert_eq!(part.look(Memory::Array, 0xFE, 2), [0x11, 0x22]);
+/// assert_eq!(part.look(Memory::Array, 0, 1), [0x33]); // a program stays in its page
+/// # Ok::<(), oxterin::Refusal>(())
+/// ```
+#[derive(Clone, Debug, PartialEq, Eq)]
+pub struct Part {
+    array: Vec<u8>,
+    register: Vec<u8>,
+    /// What the part remembers.
+    pub record: Record,
+    /// How long its operations take.
+    pub settings: Settings,
+}
+
+impl Part {
+    /// A part as delivered: every byte FFh, nothing protected, typical durations.
+    #[must_use]
+    pub fn blank(size: Size) -> Part {
+        Part::holding(vec![0xFF; size.bytes()])
+    }
+
+    /// A part whose array holds this image.
+    ///
+    /// # Errors
+    ///
+    /// The image has the length of no array.
+    pub fn with_image(image: Vec<u8>) -> Result<Part, ImageLength> {
+        match Size::of_bytes(image.len()) {
+            Some(_) => Ok(Part::holding(image)),
+            None => Err(ImageLength(image.len())),
+        }
+    }
+
+    fn holding(array: Vec<u8>) -> Part {
+        Part {
+            array,
+            register: vec![0xFF; 128],
+            record: Record::fresh(false, false, false),
+            settings: Settings::typical(),
+        }
+    }
+
+    /// A frame of whole bytes with WP high, no time having elapsed.
+    ///
+    /// # Errors
+    ///
+    /// A refused call changes nothing.
+    pub fn send(&mut self, input: &[u8]) -> Result<Exchange, Refusal> {
+        self.frame(input, Signals::whole(input))
+    }
+
+    /// Any frame.
+    ///
+    /// # Errors
+    ///
+    /// A refused call changes nothing.
+    pub fn frame(&mut self, input: &[u8], signals: Signals) -> Result<Exchange, Refusal> {
+        let mut output = vec![0; input.len()];
+        let answer = frame(
+            &mut self.record,
+            &self.settings,
+            &mut self.array,
+            &mut self.register,
+            input,
+            signals,
+            &mut output,
+        )?;
+        Ok(Exchange { output, answer })
+    }
+
+    /// A look without a frame, up to `count` bytes from the address on, never past the memory's end.
+    #[must_use]
+    pub fn look(&self, memory: Memory, address: u64, count: u64) -> &[u8] {
+        look(&self.array, &self.register, memory, address, count)
+    }
+
+    /// The whole array.
+    #[must_use]
+    pub fn array(&self) -> &[u8] {
+        &self.array
+    }
+
+    /// The security register.
+    #[must_use]
+    pub fn register(&self) -> &[u8] {
+        &self.register
+    }
+
+    /// Status bytes 1 and 2, with the level of WP.
+    #[must_use]
+    pub fn status(&self, wp_high: bool) -> [u8; 2] {
+        self.record.status(wp_high)
+    }
+}

@@ -1,0 +1,131 @@
+//! The face itself: words and bytes, and a number back. The one module with `unsafe` in it.
+//!
+//! Each function takes slices of any length. A slice of words that has another length than the one stated, a flag that is neither 0 nor
+//! 1, or an unknown mode or memory is answered with [`UNREAD`], and then nothing has changed.
+#![allow(unsafe_code)]
+
+/// The number that says that words stand for nothing.
+pub const UNREAD: u64 = 255;
+/// The words of a record: BPL, BP0, WEL, RSTE, the OTP-used mark, the mode, the busy ticks left.
+pub const RECORD: usize = 7;
+/// The words of the settings: the eight durations in ticks.
+pub const SETTINGS: usize = 8;
+/// The words of a frame's signals: bits clocked, WP's level, ticks elapsed.
+pub const SIGNALS: usize = 3;
+/// The words of an answer: outcome, first driven position, how many are driven.
+pub const ANSWER: usize = 3;
+/// The words of a status: byte 1, byte 2.
+pub const STATUS: usize = 2;
+/// The words of a look: where it begins, how many bytes it has.
+pub const PLACE: usize = 2;
+
+extern "C" {
+    fn oxterin_version() -> u64;
+    fn oxterin_fresh(bpl: u64, bp0: u64, used: u64, record: *mut u64, record_len: usize) -> u64;
+    fn oxterin_typical(settings: *mut u64, settings_len: usize) -> u64;
+    fn oxterin_status(record: *const u64, record_len: usize, wp: u64, status: *mut u64, status_len: usize) -> u64;
+    fn oxterin_look(
+        array: *const u8,
+        array_len: usize,
+        register: *const u8,
+        register_len: usize,
+        memory: u64,
+        address: u64,
+        count: u64,
+        place: *mut u64,
+        place_len: usize,
+    ) -> u64;
+    fn oxterin_frame(
+        record: *mut u64,
+        record_len: usize,
+        settings: *const u64,
+        settings_len: usize,
+        signals: *const u64,
+        signals_len: usize,
+        array: *mut u8,
+        array_len: usize,
+        register: *mut u8,
+        register_len: usize,
+        input: *const u8,
+        input_len: usize,
+        output: *mut u8,
+        output_len: usize,
+        answer: *mut u64,
+        answer_len: usize,
+    ) -> u64;
+}
+
+// Safety, for every call below: the proved functions read and write inside the slices that they are handed, whatever their lengths and
+// contents, keep no pointer, and end. A slice's own pointer and length are handed over, and a `&mut` one overlaps no other.
+
+/// The version of the proved face, a million for the first number and a thousand for the second.
+#[must_use]
+pub fn version() -> u64 {
+    unsafe { oxterin_version() }
+}
+
+/// Writes a fresh record: BPL, BP0 and the OTP-used mark as given, all else clear.
+pub fn fresh(bpl: u64, bp0: u64, used: u64, record: &mut [u64]) -> u64 {
+    unsafe { oxterin_fresh(bpl, bp0, used, record.as_mut_ptr(), record.len()) }
+}
+
+/// Writes the data sheet's typical durations.
+pub fn typical(settings: &mut [u64]) -> u64 {
+    unsafe { oxterin_typical(settings.as_mut_ptr(), settings.len()) }
+}
+
+/// Writes the two status bytes of a record, with the level of WP.
+pub fn status(record: &[u64], wp: u64, status: &mut [u64]) -> u64 {
+    unsafe { oxterin_status(record.as_ptr(), record.len(), wp, status.as_mut_ptr(), status.len()) }
+}
+
+/// Writes where in the array (memory 0) or the register (memory 1) a look begins, and how many bytes it has.
+pub fn look(array: &[u8], register: &[u8], memory: u64, address: u64, count: u64, place: &mut [u64]) -> u64 {
+    unsafe {
+        oxterin_look(
+            array.as_ptr(),
+            array.len(),
+            register.as_ptr(),
+            register.len(),
+            memory,
+            address,
+            count,
+            place.as_mut_ptr(),
+            place.len(),
+        )
+    }
+}
+
+/// One chip-select frame. The number is the refusal's, 0 for an accepted call.
+#[allow(clippy::too_many_arguments)]
+pub fn frame(
+    record: &mut [u64],
+    settings: &[u64],
+    signals: &[u64],
+    array: &mut [u8],
+    register: &mut [u8],
+    input: &[u8],
+    output: &mut [u8],
+    answer: &mut [u64],
+) -> u64 {
+    unsafe {
+        oxterin_frame(
+            record.as_mut_ptr(),
+            record.len(),
+            settings.as_ptr(),
+            settings.len(),
+            signals.as_ptr(),
+            signals.len(),
+            array.as_mut_ptr(),
+            array.len(),
+            register.as_mut_ptr(),
+            register.len(),
+            input.as_ptr(),
+            input.len(),
+            output.as_mut_ptr(),
+            output.len(),
+            answer.as_mut_ptr(),
+            answer.len(),
+        )
+    }
+}
