@@ -1,7 +1,7 @@
--- The output in three steps is what each position reads: all FFh, then what is driven, then the bits that were not clocked.
+-- The output in steps is what each position reads: what is driven, with FFh before and behind it, then the bits that were not clocked.
 -- Assumes nothing.
 use Prim.Native.Nat.{ℕ, _+_, _-_, _*_, _/_, _%_, _^_, _<_, _≤_}
-use mathlib.Core.Bool.{Bool, true, false, true≢false}
+use mathlib.Core.Bool.{Bool, true, false}
 use mathlib.Core.List.{List}
 use mathlib.Core.Logic.{_≢_}
 use mathlib.Core.Path.{_≡_, refl, sym, ap, _∙_}
@@ -12,15 +12,14 @@ use lib.Bits.{bitOr, or-zero-r}
 use lib.ListN.{length, getD, set, length-set}
 use lib.Pow.{pow-mono}
 use lib.Seq.{getD-set-same, getD-set-other}
-use Rattle.cells.specs.Each.{each, over, stored}
+use Rattle.cells.specs.Each.{Cell, each, over, stored}
 use Rattle.cells.specs.Range.{range, filled, copied}
 use Rattle.cells.proofs.Places.{is-each, each-alike, each-then, over-in, over-out, over-alike}
-use Rattle.cells.proofs.Runs.{range-in, range-behind, range-of}
+use Rattle.cells.proofs.Runs.{range-in, range-before, range-behind, range-of, begins, runs-on, ends}
+use Rattle.opcodes.specs.declared.Source.{Source}
 use Rattle.sheet.specs.declared.device.Device.{Device}
-use Rattle.sheet.specs.declared.judge.Action.{Action}
-use Rattle.sheet.specs.declared.judge.Judged.{Judged}
-use Rattle.part.specs.Output.{Store, store, storeOf, startOf, byteFrom, lineAt, unclocked, readAt}
-use Rattle.part.specs.Steps.{driven, clipped}
+use Rattle.part.specs.Output.{Store, store, storeOf, startOf, byteFrom, driveAt, unclocked}
+use Rattle.part.specs.Steps.{sent, clipped}
 
 -- a copy from the reduced address on is what a read from the address on drives
 pub from-address : (memory : List ℕ) (address first end : ℕ) (xs : List ℕ)
@@ -71,45 +70,41 @@ clip-last bytes bits xs n l z = is-each (clipped bytes bits) xs clip (length-set
         sym (over-in (range 0 bytes) (λ k x. bitOr x (unclocked bits k)) last (getD xs last 0) (range-in 0 bytes last (omega arith) (omega arith)))))
     by k m (no q) = getD-set-other xs last k _ 0 q ∙ kept bytes bits k (getD xs k 0) (λ p. omega arith)
 
--- The three steps, of which the second drives no position behind the last.
-module _ (j : Judged) (d : Device) (wp : Bool) (bits bytes : ℕ) (array register : Store) (input : List ℕ) (inside : j .first + j .driven ≤ bytes) where
-  -- what the second step makes of FFh is what is on the line
-  lined : (a : Action) (k : ℕ) → driven a j d wp array register input k 0xFF ≡ lineAt a j d wp array register input k
-  unfolding over
-  lined Action.Still k = refl
-  lined (Action.Drive source) k = refl
-  lined Action.Program k = refl
-  lined (Action.Erase region) k = refl
-  lined Action.Otp k = refl
+-- What is driven and what is not, side by side, is the line of a read.
+pub pieces : (source : Source) (d : Device) (wp : Bool) (array register : Store) (input : List ℕ) (first end bytes : ℕ) (xs : List ℕ) → first ≤ end
+    → end ≤ bytes
+    → each (filled end bytes 0xFF) (each (sent source d wp array register input first end) (each (filled 0 first 0xFF) xs))
+    ≡ each (stored (range 0 bytes) (driveAt source first end d wp array register input)) xs
+pieces source d wp array register input first end bytes xs p q =
+    let before = runs-on (begins f 0 bytes xs (omega arith)) (λ k x. 0xFF) first _ (omega arith) (omega arith) refl (λ k x l h. out k (range-before first end k h)) in
+    let between = runs-on before (λ k x. byteFrom m start (k - first)) end _ p q refl (λ k x l h. into k (range-in first end k l h)) in
+    let behind = runs-on between (λ k x. 0xFF) bytes _ q (omega arith) refl (λ k x l h. out k (range-behind first end k l)) in
+    ends behind (omega arith)
+  where
+    m : Store
+    m = storeOf source d wp array register
 
-  -- behind the last position it changes nothing
-  left : (a : Action) (k x : ℕ) → bytes ≤ k → driven a j d wp array register input k x ≡ x
-  left Action.Still k x h = refl
-  left (Action.Drive source) k x h =
-      over-out (range (j .first) (j .first + j .driven))
-      (λ k x. byteFrom (storeOf source d wp array register) (startOf source input) (k - j .first)) k x
-      (range-behind (j .first) (j .first + j .driven) k (omega arith))
-  left Action.Program k x h = refl
-  left (Action.Erase region) k x h = refl
-  left Action.Otp k x h = refl
+    start : ℕ
+    start = startOf source input
 
-  steps : (k x : ℕ) (b : Bool) → range 0 bytes k ≡ b
-      → clipped bytes bits k (driven (j .action) j d wp array register input k (filled 0 bytes 0xFF k x))
-      ≡ stored (range 0 bytes) (readAt j d wp bits array register input) k x
-  unfolding over readAt
-  steps k x true e = rw (e, lined (j .action) k)
-  steps k x false e = rw e (left (j .action) k x (behind (decLt k bytes)))
-    where
-      behind : Dec (k < bytes) → bytes ≤ k
-      behind (yes l) = absurd (true≢false (sym (range-in 0 bytes k (omega arith) l) ∙ e))
-      behind (no l) = omega arith
+    f : Cell
+    f k x = driveAt source first end d wp array register input k
 
-  pub three-steps : (xs : List ℕ)
-      → each (clipped bytes bits) (each (driven (j .action) j d wp array register input) (each (filled 0 bytes 0xFF) xs))
-      ≡ each (stored (range 0 bytes) (readAt j d wp bits array register input)) xs
-  three-steps xs =
-      ap (each (clipped bytes bits))
-      (each-then (driven (j .action) j d wp array register input) (filled 0 bytes 0xFF)
-      (λ k x. driven (j .action) j d wp array register input k (filled 0 bytes 0xFF k x)) xs (λ k l. refl)) ∙
-      each-then (clipped bytes bits) (λ k x. driven (j .action) j d wp array register input k (filled 0 bytes 0xFF k x))
-      (stored (range 0 bytes) (readAt j d wp bits array register input)) xs (λ k l. steps k (getD xs k 0) (range 0 bytes k) refl)
+    out : (k : ℕ) → range first end k ≡ false → 0xFF ≡ driveAt source first end d wp array register input k
+    out k e = rw e
+
+    into : (k : ℕ) → range first end k ≡ true → byteFrom m start (k - first) ≡ driveAt source first end d wp array register input k
+    into k e = rw e
+
+-- What is on the line, with 1 for each bit that was not clocked, is what each position reads.
+pub line-clipped : (line : ℕ → ℕ) (bits bytes : ℕ) (xs : List ℕ)
+    → each (clipped bytes bits) (each (stored (range 0 bytes) line) xs) ≡ each (stored (range 0 bytes) (λ k. bitOr (line k) (unclocked bits k))) xs
+unfolding over
+line-clipped line bits bytes xs =
+    each-then (clipped bytes bits) (stored (range 0 bytes) line) (stored (range 0 bytes) (λ k. bitOr (line k) (unclocked bits k))) xs
+    (λ k l. by k (getD xs k 0) (range 0 bytes k) refl)
+  where
+    by : (k x : ℕ) (b : Bool) → range 0 bytes k ≡ b
+        → clipped bytes bits k (stored (range 0 bytes) line k x) ≡ stored (range 0 bytes) (λ k. bitOr (line k) (unclocked bits k)) k x
+    by k x true e = rw e
+    by k x false e = rw e

@@ -41,11 +41,15 @@ startOf Legacy input = 0
 abbrev pub byteFrom : Store → ℕ → ℕ → ℕ
 byteFrom m start i = m .at ((start + i) % m .size)
 
--- what is on the line at position k: a driven byte, or FFh where the part does not drive
+-- what is on the line at position k of a read that drives from `first` up to `end`: its byte, or FFh where the part does not drive
+abbrev pub driveAt : Source → ℕ → ℕ → Device → Bool → Store → Store → List ℕ → ℕ → ℕ
+driveAt source first end d wp array register input k =
+    cond (range first end k) (byteFrom (storeOf source d wp array register) (startOf source input) (k - first)) 0xFF
+
+-- what is on the line at position k: nothing but a read drives
 abbrev pub lineAt : Action → Judged → Device → Bool → Store → Store → List ℕ → ℕ → ℕ
 lineAt Action.Still j d wp array register input k = 0xFF
-lineAt (Action.Drive source) j d wp array register input k =
-    cond (range (j .first) (j .first + j .driven) k) (byteFrom (storeOf source d wp array register) (startOf source input) (k - j .first)) 0xFF
+lineAt (Action.Drive source) j d wp array register input k = driveAt source (j .first) (j .first + j .driven) d wp array register input k
 lineAt Action.Program j d wp array register input k = 0xFF
 lineAt (Action.Erase region) j d wp array register input k = 0xFF
 lineAt Action.Otp j d wp array register input k = 0xFF

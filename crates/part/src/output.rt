@@ -13,8 +13,8 @@ ghost use Prim.Native.Nat.{_+_, _/_, _≤_, _<_};
 ghost use lib.ListN.{length};
 ghost use Rattle.cells.specs.Each.{each, stored};
 ghost use Rattle.cells.specs.Range.{range};
-ghost use Rattle.part.specs.Output.{store, readAt};
-ghost use Rattle.part.specs.Steps.{sent, driven, clipped};
+ghost use Rattle.part.specs.Output.{store, driveAt, lineAt, readAt};
+ghost use Rattle.part.specs.Steps.{sent, clipped};
 
 // The positions from `first` up to `end` receive the source's bytes.
 fn send(
@@ -58,7 +58,44 @@ fn send(
     }
 }
 
-// A read drives its positions; nothing else drives any.
+// A read's whole line: the positions from `first` up to `end` are driven, those before and behind read FFh.
+fn read_out(
+    source: Source,
+    device: Device,
+    wp: bool,
+    array: &[u8],
+    register: &[u8],
+    input: &[u8],
+    first: usize,
+    end: usize,
+    output: &mut [u8],
+)
+    requires { ⌜ (0 < length (now array)) × (0 < length (now register)) ⌝ }
+    requires { ⌜ (first ≤ end) × (end ≤ length (now input)) × (length (now input) ≤ length (now output)) ⌝ }
+    ensures { λ _. ⌜
+        now (output .exit) ≡
+        each
+        (stored (range 0 (length (now (input .entry))))
+        (driveAt source first end device wp (store (now (array .entry))) (store (now (register .entry))) (now (input .entry))))
+        (now (output .entry))
+        ⌝ }
+{
+    fill(output, 0, first, 255);
+    send(
+        source,
+        device,
+        wp,
+        array,
+        register,
+        input,
+        first,
+        end,
+        output,
+    );
+    fill(output, end, input.len(), 255);
+}
+
+// What is on the line: a read drives its positions, and nothing else drives any.
 fn drive(
     judged: Judged,
     device: Device,
@@ -68,18 +105,23 @@ fn drive(
     input: &[u8],
     output: &mut [u8],
 )
-    requires { ⌜ (0 < length (now array)) × (0 < length (now register)) × (judged .first + judged .driven ≤ length (now output)) ⌝ }
+    requires { ⌜ (0 < length (now array)) × (0 < length (now register)) ⌝ }
+    requires { ⌜ (judged .first + judged .driven ≤ length (now input)) × (length (now input) ≤ length (now output)) ⌝ }
     ensures { λ _. ⌜
         now (output .exit) ≡
-        each (driven (judged .action) judged device wp (store (now (array .entry))) (store (now (register .entry))) (now (input .entry))) (now (output .entry))
+        each
+        (stored (range 0 (length (now (input .entry))))
+        (lineAt (judged .action) judged device wp (store (now (array .entry))) (store (now (register .entry))) (now (input .entry))))
+        (now (output .entry))
         ⌝ }
 {
+    let bytes = input.len();
     let first = judged.first;
     let behind = first + judged.driven;
     let action = judged.action;
     match action {
-        Action::Still => {}
-        Action::Drive(source) => send(
+        Action::Still => fill(output, 0, bytes, 255),
+        Action::Drive(source) => read_out(
             source,
             device,
             wp,
@@ -90,9 +132,9 @@ fn drive(
             behind,
             output,
         ),
-        Action::Program => {}
-        Action::Erase(_) => {}
-        Action::Otp => {}
+        Action::Program => fill(output, 0, bytes, 255),
+        Action::Erase(_) => fill(output, 0, bytes, 255),
+        Action::Otp => fill(output, 0, bytes, 255),
     }
 }
 
@@ -131,8 +173,6 @@ pub(crate) fn show(
         (now (output .entry))
         ⌝ }
 {
-    let bytes = input.len();
-    fill(output, 0, bytes, 255);
     drive(judged, device, wp, array, register, input, output);
-    clip(output, bytes, bits);
+    clip(output, input.len(), bits);
 }

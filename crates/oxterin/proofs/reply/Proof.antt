@@ -7,8 +7,7 @@ use Rattle.oxterin.proofs.reply.Tie as tie
 
 returns : tie.Need-returns
 returns c =
-    let a = c .before .before .before .before .before .before .before .before .before .before .before .before .before .before .before .before .before in
-    (
+    let a = c .before .before .before .before .before .before .before .before .before .before .before .before .before .before .before .before .before in (
       c .wide .ensures ∙ c .before .number .ensures,
       (
         rw (c .before .before .before .before .before .before .before .before .before .before .write .ensures .1, c .before .before .before .before .before .before .before .before .before .before .before .before .before .pack .ensures, eq-eqb _ _ (a .pre .0)),

@@ -1,0 +1,286 @@
+/* Oxterin: a simulated AT25XE011 serial flash whose every function is proved to answer as the data sheet's rules say.
+ *
+ * Link target/library/liboxterin.a, which host/library builds. A first frame:
+ *
+ *     static uint8_t array[131072], security[128];
+ *     uint8_t enable[1] = {0x06}, output[1];
+ *     oxterin_record record = oxterin_fresh_record(false, false, false);
+ *     oxterin_settings settings = oxterin_typical_settings();
+ *     oxterin_answer answer;
+ *     oxterin_refusal refusal = oxterin_send_frame(
+ *         &record, &settings, oxterin_whole_bytes(1, 0), array, sizeof array, security, sizeof security,
+ *         enable, sizeof enable, output, sizeof output, &answer);
+ *
+ * Nothing is kept between calls but what you hand in again: the record, the array and the security register. Calls on different parts
+ * may run at the same time. Memories that are written (record, array, register, output, answer) must not overlap anything else that the
+ * same call is handed. A null pointer counts as a memory of length 0.
+ *
+ * C11 or C++17; needs nothing but this file and the library.
+ */
+#ifndef OXTERIN_H
+#define OXTERIN_H
+
+#include <stdbool.h>
+#include <stddef.h>
+#include <stdint.h>
+
+#ifdef __cplusplus
+extern "C" {
+#endif
+
+/* The version of this header; oxterin_version() is the library's. A million for the first number, a thousand for the second. */
+#define OXTERIN_VERSION 1000000
+
+/* Lengths in bytes. */
+#define OXTERIN_ARRAY 131072u      /* the AT25XE011's own array */
+#define OXTERIN_SMALL_ARRAY 65536u /* also accepted */
+#define OXTERIN_REGISTER 128u      /* the security register */
+#define OXTERIN_MOST_BYTES 8192u   /* a frame has no more */
+
+/* Awake, or in one of the sleep modes. */
+typedef enum { OXTERIN_AWAKE = 0, OXTERIN_DEEP = 1, OXTERIN_ULTRA_DEEP = 2 } oxterin_mode;
+
+/* The device record: all that the part remembers beside its memories. */
+typedef struct {
+    bool bpl;          /* the lock of the protection bit */
+    bool bp0;          /* the protection of the whole array */
+    bool wel;          /* the write enable latch */
+    bool rste;         /* whether the reset command is heard */
+    bool otp_used;     /* whether the one-time-programmable bytes have been programmed */
+    oxterin_mode mode; /* awake or asleep */
+    uint64_t busy;     /* ticks left until the running operation ends */
+} oxterin_record;
+
+/* How long each kind of operation takes, in ticks; a tick is a microsecond by convention. */
+typedef struct {
+    uint64_t byte_program;   /* a program of one byte */
+    uint64_t longer_program; /* a program of more than one byte */
+    uint64_t page_erase;     /* 256 bytes */
+    uint64_t erase_4k;       /* 4 KiB */
+    uint64_t erase_32k;      /* 32 KiB */
+    uint64_t chip_erase;     /* the whole array */
+    uint64_t otp_program;    /* the one-time-programmable bytes */
+    uint64_t status_write;   /* status byte 1 */
+} oxterin_settings;
+
+/* What goes with the bytes of a frame. */
+typedef struct {
+    uint64_t bits;    /* bits clocked while chip select was low */
+    bool wp_high;     /* the level of WP during the whole frame */
+    uint64_t elapsed; /* ticks elapsed since the call before */
+} oxterin_signals;
+
+/* Why a call was refused. A refused call has changed nothing, and its elapsed ticks do not count. */
+typedef enum {
+    OXTERIN_ACCEPTED = 0,
+    OXTERIN_ARRAY_LENGTH = 1,    /* the array has neither 131,072 nor 65,536 bytes */
+    OXTERIN_REGISTER_LENGTH = 2, /* the security register has not 128 bytes */
+    OXTERIN_INPUT_LENGTH = 3,    /* more than 8,192 input bytes */
+    OXTERIN_BIT_COUNT = 4,       /* the bit count does not need exactly as many bytes */
+    OXTERIN_OUTPUT_LENGTH = 5,   /* the output buffer is shorter than the input */
+    OXTERIN_RECORD = 6,          /* more than 60,000,000 busy ticks left, or any in a part that is asleep */
+    OXTERIN_DURATION = 7,        /* a duration is 0 or over 60,000,000 */
+    OXTERIN_UNREAD = 255         /* a mode or a memory that does not exist */
+} oxterin_refusal;
+
+/* What became of an accepted frame. */
+typedef enum {
+    OXTERIN_NOTHING = 0, /* it had no effect */
+    OXTERIN_READ = 1,    /* a read */
+    OXTERIN_CONTROL = 2, /* a control command was carried out */
+    OXTERIN_ABORTED = 3, /* WEL was dropped, and no operation began */
+    OXTERIN_BEGUN = 4    /* an operation took effect */
+} oxterin_outcome;
+
+typedef struct {
+    oxterin_outcome outcome;
+    size_t first;  /* the first driven position; 0 if none is driven */
+    size_t driven; /* how many positions are driven */
+} oxterin_answer;
+
+/* The two memories, for a look. */
+typedef enum { OXTERIN_MAIN_ARRAY = 0, OXTERIN_SECURITY_REGISTER = 1 } oxterin_memory;
+
+/* A part of a memory. */
+typedef struct {
+    const uint8_t *bytes;
+    size_t length;
+} oxterin_part;
+
+/* The library's own functions, on words. The functions further below are easier to use.
+ *
+ * A record is 7 words (BPL, BP0, WEL, RSTE, OTP used, mode, busy ticks), the settings are 8, the signals 3 (bits, WP, ticks), an answer
+ * 3 (outcome, first, driven), a status 2 bytes, a place 2 (start, length). Another length, a flag that is neither 0 nor 1, or a mode or
+ * memory that does not exist is answered with 255, and then nothing has changed. No pointer may be null. */
+uint64_t oxterin_version(void);
+uint64_t oxterin_fresh(uint64_t bpl, uint64_t bp0, uint64_t otp_used, uint64_t *record, size_t record_length);
+uint64_t oxterin_typical(uint64_t *settings, size_t settings_length);
+uint64_t oxterin_status(const uint64_t *record, size_t record_length, uint64_t wp, uint64_t *status, size_t status_length);
+uint64_t oxterin_look(const uint8_t *array, size_t array_length, const uint8_t *security, size_t security_length, uint64_t memory,
+                      uint64_t address, uint64_t count, uint64_t *place, size_t place_length);
+uint64_t oxterin_frame(uint64_t *record, size_t record_length, const uint64_t *settings, size_t settings_length,
+                       const uint64_t *signals, size_t signals_length, uint8_t *array, size_t array_length, uint8_t *security,
+                       size_t security_length, const uint8_t *input, size_t input_length, uint8_t *output, size_t output_length,
+                       uint64_t *answer, size_t answer_length);
+
+/* A record's words, and back. */
+static inline void oxterin_pack_record(const oxterin_record *record, uint64_t words[7]) {
+    words[0] = record->bpl;
+    words[1] = record->bp0;
+    words[2] = record->wel;
+    words[3] = record->rste;
+    words[4] = record->otp_used;
+    words[5] = (uint64_t)record->mode;
+    words[6] = record->busy;
+}
+
+static inline oxterin_record oxterin_unpack_record(const uint64_t words[7]) {
+    oxterin_record record;
+    record.bpl = words[0] == 1;
+    record.bp0 = words[1] == 1;
+    record.wel = words[2] == 1;
+    record.rste = words[3] == 1;
+    record.otp_used = words[4] == 1;
+    record.mode = (oxterin_mode)words[5];
+    record.busy = words[6];
+    return record;
+}
+
+/* A fresh record: awake and idle, WEL and RSTE clear. */
+static inline oxterin_record oxterin_fresh_record(bool bpl, bool bp0, bool otp_used) {
+    uint64_t words[7] = {0, 0, 0, 0, 0, 0, 0};
+    (void)oxterin_fresh(bpl, bp0, otp_used, words, 7);
+    return oxterin_unpack_record(words);
+}
+
+/* The data sheet's typical durations. */
+static inline oxterin_settings oxterin_typical_settings(void) {
+    uint64_t words[8] = {0, 0, 0, 0, 0, 0, 0, 0};
+    oxterin_settings settings;
+    (void)oxterin_typical(words, 8);
+    settings.byte_program = words[0];
+    settings.longer_program = words[1];
+    settings.page_erase = words[2];
+    settings.erase_4k = words[3];
+    settings.erase_32k = words[4];
+    settings.chip_erase = words[5];
+    settings.otp_program = words[6];
+    settings.status_write = words[7];
+    return settings;
+}
+
+/* The signals of a frame of whole bytes with WP high. */
+static inline oxterin_signals oxterin_whole_bytes(size_t bytes, uint64_t elapsed) {
+    oxterin_signals signals;
+    signals.bits = 8 * (uint64_t)bytes;
+    signals.wp_high = true;
+    signals.elapsed = elapsed;
+    return signals;
+}
+
+/* Status byte 1 in the low eight bits, byte 2 in the next eight, with the level of WP; 0 for a record whose mode does not exist. */
+static inline uint16_t oxterin_status_bytes(const oxterin_record *record, bool wp_high) {
+    uint64_t words[7];
+    uint64_t status[2] = {0, 0};
+    oxterin_pack_record(record, words);
+    (void)oxterin_status(words, 7, wp_high, status, 2);
+    return (uint16_t)(status[0] | status[1] << 8);
+}
+
+/* What stands in for a null pointer: a memory of length 0. */
+static inline uint8_t *oxterin_nowhere(void) {
+    static uint8_t nowhere;
+    return &nowhere;
+}
+
+static inline size_t oxterin_length_of(const uint8_t *bytes, size_t length) { return bytes ? length : 0; }
+
+/* The part of the chosen memory that begins at the address, reduced to the memory's size, and has `count` bytes unless the memory ends
+ * before. Empty if that memory's length is wrong or the memory does not exist. */
+static inline oxterin_part oxterin_look_at(const uint8_t *array, size_t array_length, const uint8_t *security, size_t security_length,
+                                           oxterin_memory memory, uint64_t address, uint64_t count) {
+    uint64_t place[2] = {0, 0};
+    const uint8_t *chosen = memory == OXTERIN_MAIN_ARRAY ? array : security;
+    oxterin_part part;
+    (void)oxterin_look(array ? array : oxterin_nowhere(), oxterin_length_of(array, array_length),
+                       security ? security : oxterin_nowhere(), oxterin_length_of(security, security_length), (uint64_t)memory, address,
+                       count, place, 2);
+    part.bytes = (chosen ? chosen : oxterin_nowhere()) + place[0];
+    part.length = (size_t)place[1];
+    return part;
+}
+
+/* One chip-select frame. The record becomes what the part then remembers, and of the output the first input_length bytes are written.
+ * The answer says what became of the frame. After a refused call it says nothing, 0 and 0, and all else is as it was. */
+static inline oxterin_refusal oxterin_send_frame(oxterin_record *record, const oxterin_settings *settings, oxterin_signals signals,
+                                                 uint8_t *array, size_t array_length, uint8_t *security, size_t security_length,
+                                                 const uint8_t *input, size_t input_length, uint8_t *output, size_t output_length,
+                                                 oxterin_answer *answer) {
+    uint64_t device[7];
+    uint64_t told[3] = {0, 0, 0};
+    uint64_t number;
+    const uint64_t levels[3] = {signals.bits, signals.wp_high, signals.elapsed};
+    const uint64_t durations[8] = {settings->byte_program, settings->longer_program, settings->page_erase,  settings->erase_4k,
+                                   settings->erase_32k,    settings->chip_erase,     settings->otp_program, settings->status_write};
+    oxterin_pack_record(record, device);
+    number = oxterin_frame(device, 7, durations, 8, levels, 3, array ? array : oxterin_nowhere(),
+                           oxterin_length_of(array, array_length), security ? security : oxterin_nowhere(),
+                           oxterin_length_of(security, security_length), input ? input : oxterin_nowhere(),
+                           oxterin_length_of(input, input_length), output ? output : oxterin_nowhere(),
+                           oxterin_length_of(output, output_length), told, 3);
+    answer->outcome = (oxterin_outcome)told[0];
+    answer->first = (size_t)told[1];
+    answer->driven = (size_t)told[2];
+    if (number == 0) {
+        *record = oxterin_unpack_record(device);
+    }
+    return (oxterin_refusal)number;
+}
+
+/* An outcome's word. */
+static inline const char *oxterin_outcome_word(oxterin_outcome outcome) {
+    switch (outcome) {
+    case OXTERIN_NOTHING:
+        return "nothing";
+    case OXTERIN_READ:
+        return "read";
+    case OXTERIN_CONTROL:
+        return "control";
+    case OXTERIN_ABORTED:
+        return "aborted";
+    case OXTERIN_BEGUN:
+        return "begun";
+    }
+    return "unknown";
+}
+
+/* What a refusal says. */
+static inline const char *oxterin_refusal_text(oxterin_refusal refusal) {
+    switch (refusal) {
+    case OXTERIN_ACCEPTED:
+        return "accepted";
+    case OXTERIN_ARRAY_LENGTH:
+        return "the array has neither 131,072 nor 65,536 bytes";
+    case OXTERIN_REGISTER_LENGTH:
+        return "the security register has not 128 bytes";
+    case OXTERIN_INPUT_LENGTH:
+        return "a frame has at most 8,192 bytes";
+    case OXTERIN_BIT_COUNT:
+        return "the bit count does not need exactly that many bytes";
+    case OXTERIN_OUTPUT_LENGTH:
+        return "the output buffer is shorter than the input";
+    case OXTERIN_RECORD:
+        return "the record has more than 60,000,000 busy ticks left, or any while asleep";
+    case OXTERIN_DURATION:
+        return "a duration is 0 or over 60,000,000 ticks";
+    case OXTERIN_UNREAD:
+        return "a mode or a memory that does not exist";
+    }
+    return "unknown";
+}
+
+#ifdef __cplusplus
+}
+#endif
+
+#endif
