@@ -16,9 +16,9 @@ abbrev row : ℕ → ℕ → ℕ → ℕ → Bool → Bool → Bool → Command 
 row code bytes first most boundary latch busy command =
     record { code = code; bytes = bytes; first = first; most = most; boundary = boundary; latch = latch; busy = busy; command = command }
 
--- as many positions as the frame has
+-- as many positions as the frame has: none that is accepted has more
 abbrev endless : ℕ
-endless = 2 ^ 64 - 1
+endless = 2 ^ 16 - 1
 
 unfoldable pub rows : List Row
 rows =

@@ -51,17 +51,17 @@ pub enum Command {
 // whether it needs a byte boundary, whether it needs the latch, whether a busy part answers it, and what it does.
 pub struct Row {
     pub code: u8,
-    pub bytes: usize,
-    pub first: usize,
-    pub most: usize,
+    pub bytes: u8,
+    pub first: u8,
+    pub most: u16,
     pub boundary: bool,
     pub latch: bool,
     pub busy: bool,
     pub command: Command,
 }
 
-// As many positions as the frame has: no frame has more.
-const ENDLESS: usize = 18446744073709551615;
+// As many positions as the frame has: no frame that is accepted has more.
+const ENDLESS: u16 = 65535;
 
 const ROWS: [Row; 23] = [
     Row {

@@ -94,13 +94,15 @@ fn on_boundary(facts: Facts) -> bool
 fn driven(row: Row, facts: Facts) -> usize
     ensures { λ r. ⌜ r ≡ judging.driven row facts ⌝ }
 {
-    if facts.bytes <= row.first {
+    let first = row.first as usize;
+    let most = row.most as usize;
+    if facts.bytes <= first {
         return 0;
     }
-    if facts.bytes - row.first < row.most {
-        facts.bytes - row.first
+    if facts.bytes - first < most {
+        facts.bytes - first
     } else {
-        row.most
+        most
     }
 }
 
@@ -121,7 +123,7 @@ fn read(row: Row, source: Source, device: Device, facts: Facts) -> Judged
     Judged {
         device,
         outcome: Outcome::Read,
-        first: row.first,
+        first: row.first as usize,
         driven,
         action: Action::Drive(source),
     }
@@ -242,7 +244,7 @@ fn obeyed(row: Row, device: Device, settings: Settings, facts: Facts) -> Judged
 fn complete(row: Row, facts: Facts) -> bool
     ensures { λ r. ⌜ r ≡ judging.complete row facts ⌝ }
 {
-    (row.bytes <= facts.bytes) & (on_boundary(facts) | !row.boundary)
+    (row.bytes as usize <= facts.bytes) & (on_boundary(facts) | !row.boundary)
 }
 
 // By opcode: nothing without the latch that it needs; else obeyed if complete, aborted if not.

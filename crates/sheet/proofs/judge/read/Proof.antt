@@ -8,7 +8,7 @@ returns : tie.Need-returns
 returns c = rw (← c .before .driven .ensures, eq-eqb _ _ (c .if1 .taken))
 
 returns-2 : tie.Need-returns-2
-returns-2 c = rw (← c .before .driven .ensures, ne-eqb _ _ (c .if1 .left))
+returns-2 c = rw (← c .before .before .driven .ensures, ne-eqb _ _ (c .before .if1 .left))
 
 pub read-spec : {M : Type 1} → statement M
 read-spec =
@@ -16,4 +16,5 @@ read-spec =
     (tie.spec
     (λ c κs. search needs)
     returns
+    (λ c. search needs)
     returns-2)
