@@ -14,18 +14,19 @@ use Rattle.packing.specs.Packing.{packed, isRecord, deviceOf, isSettings, setti
 use Rattle.packing.proofs.Records.{record-right}
 use Rattle.oxterin.specs.Face.{Handed, isCall, callOf, left, told}
 
--- each slice of a call has its length
-pub record Long (h : Handed) : Type 0 where
-  pub device : length (h .device) ≡ 7
-  pub settings : length (h .settings) ≡ 8
-  pub answer : length (h .answer) ≡ 3
-
-pub long : (h : Handed) → isCall h ≡ true → Long h
-long h right =
+-- the four tests of a call
+tests : (h : Handed) → isCall h ≡ true → ((isRecord (h .device) ≡ true) × (isSettings (h .settings) ≡ true)) × (isAnswer (length (h .answer)) ≡ true)
+tests h right =
     let all = and-eq-true-iff (isRecord (h .device) && isSettings (h .settings) && isSignals (h .signals)) (isAnswer (length (h .answer))) .0 right in
     let three = and-eq-true-iff (isRecord (h .device) && isSettings (h .settings)) (isSignals (h .signals)) .0 (all .0) in
-    let two = and-eq-true-iff (isRecord (h .device)) (isSettings (h .settings)) .0 (three .0) in
-    record { device = record-right (h .device) (two .0) .long; settings = eqb-true _ _ (two .1); answer = eqb-true _ _ (all .1) }
+    (and-eq-true-iff (isRecord (h .device)) (isSettings (h .settings)) .0 (three .0), all .1)
+
+pub record-read : (h : Handed) → isCall h ≡ true → isRecord (h .device) ≡ true
+record-read h right = tests h right .0 .0
+
+-- the record's and the answer's slices have their lengths
+pub long : (h : Handed) → isCall h ≡ true → (length (h .device) ≡ 7) × (length (h .answer) ≡ 3)
+long h right = (record-right (h .device) (record-read h right) .long, eqb-true _ _ (tests h right .1))
 
 -- a frame's result, told as words, is the face's
 pub as-told : (h : Handed) (m n : Lent) (d : Device) (s : Settings) (g : Signals) (a : Answer) (number : ℕ) (device answer : List ℕ)

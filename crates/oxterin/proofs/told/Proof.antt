@@ -2,7 +2,7 @@
 use borrow.Author.Needs.{needs}
 use Rattle.part.specs.Frame.{Lent, lent}
 use Rattle.oxterin.specs.Face.{Handed, handed}
-use Rattle.oxterin.proofs.Words.{Long, long, as-told}
+use Rattle.oxterin.proofs.Words.{long, as-told}
 use Rattle.oxterin.proofs.told.Statement.{statement}
 use Rattle.oxterin.proofs.told.Tie as tie
 
@@ -12,11 +12,10 @@ handedAt a = handed (a .args .device .now) (a .args .settings .now) (a .args .si
 abbrev lentAt : tie.Start → Lent
 lentAt a = lent (a .args .array .now) (a .args .register .now) (a .args .output .now)
 
-ok : (a : tie.Start) → Long (handedAt a)
-ok a = long (handedAt a) (a .pre)
-
 reply-requires : tie.Need-reply-requires
-reply-requires c κs = let o = ok (c .before .before .before .before .before .before .before .before .before .before .before .before .before .before .before .before .before .before .before .before .before .before .before .before) in (o .device, o .answer)
+reply-requires c κs =
+    let a = c .before .before .before .before .before .before .before .before .before .before .before .before .before .before .before .before .before .before .before .before .before .before .before .before in
+    long (handedAt a) (a .pre)
 
 returns : tie.Need-returns
 returns c =

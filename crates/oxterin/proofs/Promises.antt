@@ -1,0 +1,91 @@
+-- What the face promises holds. Assumes nothing.
+use mathlib.Core.Bool.{Bool, true, false}
+use mathlib.Core.Logic.{_≢_}
+use mathlib.Core.Path.{_≡_, refl, sym, ap, _∙_}
+use native.Mathlib.Omega.{arith}
+use borrow.Author.Tests.{eqb-true}
+use lib.Dec.{eqb}
+use Rattle.lent.specs.declared.refusal.Refusal.{Refusal}
+use Rattle.lent.specs.declared.refusal.Lengths.{Lengths}
+use Rattle.lent.specs.Refusal.{numberOf}
+use Rattle.lent.proofs.Numbers.{refusalAt, has-refusal}
+use Rattle.part.specs.Frame.{Call, Lent, lengthsOf, numberFor, replied, frame}
+use Rattle.packing.specs.Packing.{packed}
+use Rattle.packing.proofs.Records.{same-words, same-durations, is-record, same-record}
+use Rattle.oxterin.specs.Face.{Handed, isCall, callOf, told, unread, faced}
+use Rattle.oxterin.specs.Promises.{Promises}
+use Rattle.oxterin.proofs.Words.{record-read}
+
+-- the two ways of a call
+read : (h : Handed) (m : Lent) → isCall h ≡ true → faced h m ≡ told (frame (callOf h) m)
+unfolding faced
+read h m e = rw e
+
+passed-over : (h : Handed) (m : Lent) → isCall h ≡ false → faced h m ≡ unread h m
+unfolding faced
+passed-over h m e = rw e
+
+-- no refusal has the number 255
+small : (r : Refusal) → numberOf r ≢ 255
+small Refusal.Accepted = λ e. omega arith
+small Refusal.ArrayLength = λ e. omega arith
+small Refusal.RegisterLength = λ e. omega arith
+small Refusal.InputLength = λ e. omega arith
+small Refusal.BitCount = λ e. omega arith
+small Refusal.OutputLength = λ e. omega arith
+small Refusal.Record = λ e. omega arith
+small Refusal.Duration = λ e. omega arith
+
+numbered : (c : Call) (lengths : Lengths) → numberOf (refusalAt (numberFor c lengths)) ≡ numberFor c lengths
+unfolding numberFor
+numbered c lengths = has-refusal (c .device) (c .settings) (c .signals .bits) lengths
+
+-- a frame by the number of its refusal
+number-is : (c : Call) (m : Lent) → frame c m .reply .refusal ≡ numberFor c (lengthsOf c m)
+unfolding frame replied
+number-is c m = by (eqb (numberFor c (lengthsOf c m)) 0) refl
+  where
+    by : (b : Bool) → eqb (numberFor c (lengthsOf c m)) 0 ≡ b → frame c m .reply .refusal ≡ numberFor c (lengthsOf c m)
+    by true e = rw e (sym (eqb-true _ _ e))
+    by false e = rw e
+
+not-255 : (c : Call) (m : Lent) → frame c m .reply .refusal ≢ 255
+not-255 c m e = small (refusalAt (numberFor c (lengthsOf c m))) (numbered c (lengthsOf c m) ∙ (sym (number-is c m) ∙ e))
+
+-- a frame that is refused leaves record and memories
+left-alone : (c : Call) (m : Lent) → frame c m .reply .refusal ≢ 0 → (frame c m .reply .device ≡ c .device) × (frame c m .lent ≡ m)
+unfolding frame replied
+left-alone c m n = by (eqb (numberFor c (lengthsOf c m)) 0) refl
+  where
+    by : (b : Bool) → eqb (numberFor c (lengthsOf c m)) 0 ≡ b → (frame c m .reply .device ≡ c .device) × (frame c m .lent ≡ m)
+    by true e = absurd (n (number-is c m ∙ eqb-true _ _ e))
+    by false e = (rw e, rw e)
+
+exactly : (h : Handed) (m : Lent) → faced h m .number ≡ 255 → isCall h ≡ false
+exactly h m e = by (isCall h) refl
+  where
+    by : (b : Bool) → isCall h ≡ b → isCall h ≡ false
+    by true r = absurd (not-255 (callOf h) m (sym (ap (λ l. l .number) (read h m r)) ∙ e))
+    by false r = r
+
+unchanged : (h : Handed) (m : Lent) → faced h m .number ≢ 0 → (faced h m .device ≡ h .device) × (faced h m .lent ≡ m)
+unchanged h m n = by (isCall h) refl
+  where
+    by : (b : Bool) → isCall h ≡ b → (faced h m .device ≡ h .device) × (faced h m .lent ≡ m)
+    by true r =
+        let alone = left-alone (callOf h) m (λ z. n (ap (λ l. l .number) (read h m r) ∙ z)) in (
+          ap (λ l. l .device) (read h m r) ∙ (ap packed (alone .0) ∙ same-words (h .device) (record-read h r)),
+          ap (λ l. l .lent) (read h m r) ∙ alone .1,
+        )
+    by false r = (ap (λ l. l .device) (passed-over h m r), ap (λ l. l .lent) (passed-over h m r))
+
+pub promises : Promises
+promises =
+    record {
+      as-the-part = read;
+      unread-exactly = λ h m. (λ e. ap (λ l. l .number) (passed-over h m e), exactly h m);
+      refused-changes-nothing = unchanged;
+      handed-on = λ d. (is-record d, same-record d);
+      same-words = same-words;
+      same-durations = same-durations;
+    }

@@ -1,0 +1,23 @@
+-- What follows for a caller who has only words and memories. Assumes nothing.
+use Prim.Native.Nat.{ℕ}
+use mathlib.Core.Bool.{true, false}
+use mathlib.Core.List.{List}
+use mathlib.Core.Logic.{_≢_}
+use mathlib.Core.Path.{_≡_}
+use Rattle.sheet.specs.declared.device.Device.{Device}
+use Rattle.part.specs.Frame.{Lent, frame}
+use Rattle.packing.specs.Packing.{packed, isRecord, deviceOf, isSettings, settingsOf}
+use Rattle.oxterin.specs.Face.{Handed, isCall, callOf, told, faced}
+
+pub record Promises : Type 0 where
+  -- words that stand for a call are answered with what the part's frame gives, and nothing else
+  pub as-the-part : (h : Handed) (m : Lent) → isCall h ≡ true → faced h m ≡ told (frame (callOf h) m)
+  -- 255 is answered to words that stand for nothing, and to no others
+  pub unread-exactly : (h : Handed) (m : Lent) → (isCall h ≡ false → faced h m .number ≡ 255) × (faced h m .number ≡ 255 → isCall h ≡ false)
+  -- a call with a number other than 0 changes neither the record's words nor a lent byte
+  pub refused-changes-nothing : (h : Handed) (m : Lent) → faced h m .number ≢ 0 → (faced h m .device ≡ h .device) × (faced h m .lent ≡ m)
+  -- the record that comes back as words is the one that goes in with them
+  pub handed-on : (d : Device) → (isRecord (packed d) ≡ true) × (deviceOf (packed d) ≡ d)
+  -- the words of a record say no more than the record, and the settings are their words
+  pub same-words : (ws : List ℕ) → isRecord ws ≡ true → packed (deviceOf ws) ≡ ws
+  pub same-durations : (ws : List ℕ) → isSettings ws ≡ true → settingsOf ws .ticks ≡ ws
