@@ -1,2 +1,80 @@
-//! The command `oxterin`.
-fn main() {}
+//! The command `oxterin`: the proved part for people at a bench.
+#![forbid(unsafe_code)]
+
+mod complaint;
+mod image;
+mod lines;
+mod options;
+mod run;
+mod serprog;
+mod serve;
+mod session;
+
+use complaint::{complaint, Complaint};
+use std::io::{self, Write};
+use std::process::ExitCode;
+
+const HELP: &str = "\
+oxterin: a simulated AT25XE011 serial flash whose every function is proved
+
+Usage: oxterin COMMAND [OPTIONS]
+
+  session     the built-in session of four frames
+  run         frames from a file or standard input, answered line by line
+  serve       the part behind the serprog protocol, for flashrom and other clients
+
+  oxterin COMMAND --help    what a command takes
+  oxterin --version         the version of the command and of the proved library, and how that was built
+";
+
+fn main() -> ExitCode {
+    let words: Vec<String> = std::env::args().skip(1).collect();
+    match obey(&words) {
+        Ok(()) => ExitCode::SUCCESS,
+        Err(error) => {
+            eprintln!("oxterin: {error}");
+            ExitCode::from(2)
+        }
+    }
+}
+
+/// Does what the words ask for.
+fn obey(words: &[String]) -> Result<(), Complaint> {
+    let (command, rest) = match words.split_first() {
+        Some((command, rest)) => (command.as_str(), rest),
+        None => return Err(complaint(format!("no command was given\n\n{}", HELP.trim_end()))),
+    };
+    let asks_help = rest
+        .iter()
+        .take_while(|word| *word != "--")
+        .any(|word| word == "--help" || word == "-h");
+    match command {
+        "--help" | "-h" | "help" => say(HELP),
+        "--version" | "-V" => say(&version()),
+        "session" if asks_help => say(session::HELP),
+        "run" if asks_help => say(&run::help()),
+        "serve" if asks_help => say(&serve::help()),
+        "session" if rest.is_empty() => say(&session::lines()?),
+        "session" => Err(complaint(format!("session takes nothing behind it, and was given {}", rest[0]))),
+        "run" => run::run(rest),
+        "serve" => serve::serve(rest),
+        other => Err(complaint(format!("unknown command {other}; there are session, run and serve"))),
+    }
+}
+
+/// What `--version` says.
+fn version() -> String {
+    format!(
+        "oxterin {}\nproved library {}, built for {}\n",
+        env!("CARGO_PKG_VERSION"),
+        oxterin::version(),
+        oxterin::BUILT
+    )
+}
+
+/// Writes a text to standard output.
+fn say(text: &str) -> Result<(), Complaint> {
+    io::stdout()
+        .write_all(text.as_bytes())
+        .map_err(|error| complaint(format!("standard output: {error}")))
+}

@@ -65,8 +65,10 @@ impl Refusal {
         self as u8
     }
 
+    /// The refusal of this number; 0 is none, and no well-formed call gives another.
     fn of_number(number: u64) -> Option<Refusal> {
-        Refusal::ALL.into_iter().find(|refusal| u64::from(refusal.number()) == number)
+        let place = usize::try_from(number).ok()?.checked_sub(1)?;
+        Some(Refusal::ALL[place])
     }
 }
 
@@ -178,18 +180,15 @@ pub fn frame(
         output,
         &mut answer,
     );
-    match Refusal::of_number(number) {
-        Some(refusal) => Err(refusal),
-        None => {
-            debug_assert_eq!(number, 0);
-            *record = Record::of_words(&words);
-            Ok(Answer {
-                outcome: Outcome::ALL[answer[0] as usize],
-                first: answer[1] as usize,
-                driven: answer[2] as usize,
-            })
-        }
+    if let Some(refusal) = Refusal::of_number(number) {
+        return Err(refusal);
     }
+    *record = Record::of_words(&words);
+    Ok(Answer {
+        outcome: Outcome::ALL[answer[0] as usize],
+        first: answer[1] as usize,
+        driven: answer[2] as usize,
+    })
 }
 
 /// Which of the two memories.

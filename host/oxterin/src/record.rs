@@ -63,6 +63,7 @@ impl Record {
 
     /// The record as the face's words.
     #[must_use]
+    #[inline]
     pub fn words(&self) -> [u64; raw::RECORD] {
         let mode = match self.mode {
             Mode::Awake => 0,
@@ -80,6 +81,7 @@ impl Record {
         ]
     }
 
+    #[inline]
     pub(crate) fn of_words(words: &[u64; raw::RECORD]) -> Record {
         Record {
             bpl: words[0] == 1,
@@ -146,6 +148,7 @@ impl Settings {
 
     /// The durations as the face's words.
     #[must_use]
+    #[inline]
     pub fn words(&self) -> [u64; raw::SETTINGS] {
         [
             self.byte_program,
@@ -161,6 +164,7 @@ impl Settings {
 
     /// The durations of these words.
     #[must_use]
+    #[inline]
     pub fn of_words(words: &[u64; raw::SETTINGS]) -> Settings {
         let [byte_program, longer_program, page_erase, erase_4k, erase_32k, chip_erase, otp_program, status_write] = *words;
         Settings {

@@ -1,0 +1,140 @@
+//! The words behind a subcommand: options with a value, options without, and the rest.
+use crate::complaint::{complaint, Complaint};
+use oxterin::{Part, Settings, Size};
+
+/// What a subcommand was given.
+#[derive(Debug)]
+pub struct Given {
+    values: Vec<(String, String)>,
+    flags: Vec<String>,
+    /// The words that are no options.
+    pub words: Vec<String>,
+}
+
+impl Given {
+    /// Sorts the words. `valued` options take a value, as `--size 65536` or `--size=65536`; `flags` take none. `--` ends the options.
+    pub fn read(words: &[String], valued: &[&str], flags: &[&str]) -> Result<Given, Complaint> {
+        let mut given = Given {
+            values: Vec::new(),
+            flags: Vec::new(),
+            words: Vec::new(),
+        };
+        let mut rest = words.iter();
+        while let Some(word) = rest.next() {
+            if word == "--" {
+                given.words.extend(rest.by_ref().cloned());
+            } else if !word.starts_with("--") {
+                given.words.push(word.clone());
+            } else {
+                let (name, value) = match word.split_once('=') {
+                    Some((name, value)) => (name, Some(value.to_string())),
+                    None => (word.as_str(), None),
+                };
+                if flags.contains(&name) && value.is_none() {
+                    given.flags.push(name.to_string());
+                } else if valued.contains(&name) {
+                    let value = value.or_else(|| rest.next().cloned());
+                    let value = value.ok_or_else(|| complaint(format!("{name} wants a value behind it")))?;
+                    given.values.push((name.to_string(), value));
+                } else {
+                    return Err(complaint(format!("unknown option {word}; --help lists those there are")));
+                }
+            }
+        }
+        Ok(given)
+    }
+
+    /// Whether an option without a value was given.
+    pub fn has(&self, flag: &str) -> bool {
+        self.flags.iter().any(|given| given == flag)
+    }
+
+    /// The value of an option, the last one given.
+    pub fn value(&self, name: &str) -> Option<&str> {
+        self.values
+            .iter()
+            .rev()
+            .find(|(given, _)| given == name)
+            .map(|(_, value)| value.as_str())
+    }
+
+    /// All values of an option, in the order given.
+    pub fn values<'a>(&'a self, name: &'a str) -> impl Iterator<Item = &'a str> {
+        self.values
+            .iter()
+            .filter(move |(given, _)| given == name)
+            .map(|(_, value)| value.as_str())
+    }
+}
+
+/// The options that describe a part, for every subcommand that makes one.
+pub const PART_VALUED: [&str; 3] = ["--size", "--image", "--set"];
+/// Those of them that take no value.
+pub const PART_FLAGS: [&str; 3] = ["--bpl", "--bp0", "--otp-used"];
+/// What they mean.
+pub const PART_HELP: &str = "  --size BYTES        131072 (default) or 65536; with --image its own size
+  --image FILE        the array's first content; without it every byte is FFh
+  --set NAME=TICKS    a duration: byte-program, longer-program, page-erase, erase-4k, erase-32k,
+                      chip-erase, otp-program, status-write; typical ones are the default
+  --bpl --bp0         the first record has BPL, or BP0, set
+  --otp-used          the first record has its one-time-programmable bytes used up
+";
+
+/// A number in decimal, with or without commas or underscores.
+pub fn number(text: &str) -> Option<u64> {
+    let digits: String = text.chars().filter(|c| !matches!(c, ',' | '_')).collect();
+    digits.parse().ok()
+}
+
+/// The part that the options describe.
+pub fn part(given: &Given) -> Result<Part, Complaint> {
+    let mut part = match given.value("--image") {
+        Some(path) => Part::with_image(crate::image::load(path)?).map_err(|wrong| complaint(format!("{path}: {wrong}")))?,
+        None => Part::blank(Size::Whole),
+    };
+    if let Some(text) = given.value("--size") {
+        let size = number(text).and_then(|bytes| Size::of_bytes(usize::try_from(bytes).ok()?));
+        let size = size.ok_or_else(|| complaint(format!("--size {text}: a part has 131072 or 65536 bytes")))?;
+        if given.value("--image").is_none() {
+            part = Part::blank(size);
+        } else if part.array().len() != size.bytes() {
+            return Err(complaint(format!(
+                "--size {text}: the image has {} bytes; leave --size out, or give an image of that size",
+                part.array().len()
+            )));
+        }
+    }
+    for setting in given.values("--set") {
+        part.settings = set(part.settings, setting)?;
+    }
+    part.record = oxterin::Record::fresh(given.has("--bpl"), given.has("--bp0"), given.has("--otp-used"));
+    Ok(part)
+}
+
+/// The settings with one duration changed, given as `NAME=TICKS`.
+fn set(settings: Settings, text: &str) -> Result<Settings, Complaint> {
+    let (name, ticks) = text
+        .split_once('=')
+        .ok_or_else(|| complaint(format!("--set {text}: write NAME=TICKS, such as --set erase-4k=50000")))?;
+    let place = Settings::NAMES.iter().position(|known| *known == name).ok_or_else(|| {
+        complaint(format!(
+            "--set {text}: no duration is called {name}; there are {}",
+            Settings::NAMES.join(", ")
+        ))
+    })?;
+    let ticks = number(ticks)
+        .filter(|ticks| (1..=60_000_000).contains(ticks))
+        .ok_or_else(|| complaint(format!("--set {text}: a duration is a number of ticks from 1 to 60,000,000")))?;
+    let mut words = settings.words();
+    words[place] = ticks;
+    Ok(Settings::of_words(&words))
+}
+
+/// `--wp low|high`: whether WP is high, which it is unless said.
+pub fn wp_high(given: &Given) -> Result<bool, Complaint> {
+    match given.value("--wp") {
+        None | Some("high") => Ok(true),
+        Some("low") => Ok(false),
+        Some(other) => Err(complaint(format!("--wp {other}: the level is low or high"))),
+    }
+}

@@ -1,0 +1,141 @@
+//! The command as its user sees it: what it writes where, and how it ends.
+use std::fs;
+use std::io::Write;
+use std::path::{Path, PathBuf};
+use std::process::{Command, Output, Stdio};
+
+/// Runs the command with these words, and this text on standard input.
+fn oxterin(words: &[&str], input: &str) -> Output {
+    let mut child = Command::new(env!("CARGO_BIN_EXE_oxterin"))
+        .args(words)
+        .stdin(Stdio::piped())
+        .stdout(Stdio::piped())
+        .stderr(Stdio::piped())
+        .spawn()
+        .expect("the command starts");
+    // A command that complains before it reads leaves its input unread.
+    let _ = child.stdin.take().expect("standard input").write_all(input.as_bytes());
+    child.wait_with_output().expect("the command ends")
+}
+
+fn said(output: &Output) -> &str {
+    std::str::from_utf8(&output.stdout).expect("text")
+}
+
+fn complained(output: &Output) -> &str {
+    assert!(!output.status.success(), "it did not fail: {}", said(output));
+    std::str::from_utf8(&output.stderr).expect("text")
+}
+
+/// A file of this test's own.
+fn scratch(name: &str) -> PathBuf {
+    let path = Path::new(env!("CARGO_TARGET_TMPDIR")).join(name);
+    let _ = fs::remove_file(&path);
+    path
+}
+
+fn text(path: &Path) -> &str {
+    path.to_str().expect("a plain name")
+}
+
+#[test]
+fn the_session_is_the_proved_programs() {
+    let output = oxterin(&["session"], "");
+    assert!(output.status.success());
+    assert_eq!(said(&output), include_str!("../../../crates/session/stdout"));
+}
+
+#[test]
+fn frames_are_answered_line_by_line() {
+    let frames = "06\n# a comment\n\n02 00 00 FE 11 22 33 +1\n050000 +1\n05 00 /11 wp=low\n03 00 00 FE 00 00 00 +2000\n/0\n";
+    let output = oxterin(&["run", "--size", "65536"], frames);
+    assert!(output.status.success());
+    let expected = "06 > FF ST 12\n\
+                    02 00 00 FE 11 22 33 > FF FF FF FF FF FF FF ST 11\n\
+                    05 00 00 > FF 11 01 ST 11\n\
+                    05 00 > FF 1F ST 01\n\
+                    03 00 00 FE 00 00 00 > FF FF FF FF 11 22 FF ST 10\n\
+                    > ST 10\n";
+    assert_eq!(said(&output), expected);
+}
+
+#[test]
+fn explanations_and_settings() {
+    let words = ["run", "--set", "erase-4k=7", "--set=longer-program=3", "--explain", "-"];
+    let output = oxterin(&words, "9F 00 00 00 00 00\n06\n20 00 00 00\n05 00 +7\n02 00 00 00 01 02\n");
+    let expected = "9F 00 00 00 00 00 > FF 1F 42 00 00 FF ST 10 (read, drives positions 1 to 4, idle)\n\
+                    06 > FF ST 12 (control, drives nothing, idle)\n\
+                    20 00 00 00 > FF FF FF FF ST 11 (begun, drives nothing, busy for 7 ticks)\n\
+                    05 00 > FF 10 ST 10 (read, drives position 1, idle)\n\
+                    02 00 00 00 01 02 > FF FF FF FF FF FF ST 10 (nothing, drives nothing, idle)\n";
+    assert_eq!(said(&output), expected);
+}
+
+#[test]
+fn images_are_loaded_and_saved_whole() {
+    let (before, after) = (scratch("before.bin"), scratch("after.bin"));
+    let image: Vec<u8> = (0..65_536u32).map(|k| ((k * 7) >> 3) as u8).collect();
+    fs::write(&before, &image).expect("written");
+    let words = ["run", "--image", text(&before), "--save", text(&after)];
+    assert!(oxterin(&words, "06\n02 00 12 34 0F\n").status.success());
+    let mut expected = image.clone();
+    expected[0x1234] &= 0x0F;
+    assert_eq!(fs::read(&after).expect("saved"), expected);
+    assert_eq!(fs::read(&before).expect("there"), image);
+}
+
+#[test]
+fn a_bad_line_names_its_place_and_saves_nothing() {
+    let after = scratch("unsaved.bin");
+    let output = oxterin(&["run", "--save", text(&after)], "06\n02 00 00 0O 11\n");
+    assert_eq!(
+        complained(&output),
+        "oxterin: standard input, line 2, column 11: 0O: bytes are pairs of hexadecimal digits; \
+         /BITS, +TICKS and wp=low or wp=high may stand beside them\n"
+    );
+    assert_eq!(said(&output), "06 > FF ST 12\n");
+    assert!(!after.exists());
+}
+
+#[test]
+fn a_refused_frame_ends_the_run() {
+    let after = scratch("refused.bin");
+    let complaint = oxterin(&["run", "--save", text(&after)], "05 00 /17\n");
+    assert!(complained(&complaint).contains("line 1: refusal 4"), "{}", complained(&complaint));
+    assert!(!after.exists());
+}
+
+#[test]
+fn wrong_words_are_complained_of_with_a_remedy() {
+    for (words, remedy) in [
+        (&["rum"][..], "there are session, run and serve"),
+        (&["session", "now"], "takes nothing"),
+        (&["run", "--sise", "1"], "--help"),
+        (&["run", "--size"], "wants a value"),
+        (&["run", "--size", "1024"], "131072 or 65536"),
+        (&["run", "--set", "erase=1"], "page-erase"),
+        (&["run", "--set", "chip-erase=0"], "from 1 to 60,000,000"),
+        (&["run", "--wp", "up"], "low or high"),
+        (&["run", "a", "b"], "one file"),
+        (&["run", "no such file"], "no such file"),
+        (&["run", "--image", "no such image"], "no such image"),
+    ] {
+        let output = oxterin(words, "");
+        assert!(complained(&output).contains(remedy), "{words:?}: {}", complained(&output));
+        assert_eq!(said(&output), "");
+    }
+}
+
+#[test]
+fn help_and_version() {
+    for words in [&["--help"][..], &["session", "--help"], &["run", "--help"], &["serve", "--help"]] {
+        let output = oxterin(words, "");
+        assert!(output.status.success() && said(&output).contains("Usage: oxterin"), "{words:?}");
+    }
+    let version = oxterin(&["--version"], "");
+    assert!(
+        said(&version).starts_with("oxterin 1.0.0\nproved library 1.0.0, built for "),
+        "{}",
+        said(&version)
+    );
+}

@@ -1,0 +1,280 @@
+//! How long a frame takes: the proved part, the model, and a plain copy or fill of as many bytes.
+use std::hint::black_box;
+use std::process::{Command, ExitCode};
+use std::time::{Duration, Instant};
+
+/// How often each contender is measured.
+const ROUNDS: u32 = 15;
+
+/// About how long one measurement takes.
+const ROUND: Duration = Duration::from_millis(20);
+
+/// A frame to be measured.
+struct Case {
+    /// What the table calls it.
+    name: &'static str,
+    /// Its bytes.
+    input: Vec<u8>,
+    /// What it has to come to.
+    outcome: &'static str,
+    /// What it is compared with, beside the model.
+    plain: Plain,
+}
+
+/// What the same number of bytes would cost without a part.
+#[derive(Clone, Copy)]
+enum Plain {
+    /// There is nothing to compare with.
+    None,
+    /// Copying so many bytes.
+    Copy(usize),
+    /// Filling so many bytes.
+    Fill(usize),
+}
+
+/// Something that can be done over and over, and the least time it took.
+struct Contender {
+    /// Does it so many times.
+    repeat: Box<dyn FnMut(u64)>,
+    /// How many times make a round.
+    times: u64,
+    /// The fewest nanoseconds for one time so far.
+    best: f64,
+}
+
+fn main() -> ExitCode {
+    if cfg!(debug_assertions) {
+        eprintln!("bench: a debug build says nothing about speed; run it with --release");
+        return ExitCode::from(2);
+    }
+    print_conditions();
+    let cases = cases();
+    let mut contenders: Vec<Vec<Contender>> = cases.iter().map(contenders).collect();
+    for _ in 0..ROUNDS {
+        contenders.iter_mut().flatten().for_each(Contender::measure);
+    }
+    print_table(&cases, &contenders);
+    ExitCode::SUCCESS
+}
+
+/// The frames in the order of the table.
+fn cases() -> Vec<Case> {
+    let program = |data: usize| [&[0x02, 0x00, 0x40, 0x00][..], &vec![0x5A; data]].concat();
+    let read = [&[0x03, 0x00, 0x40, 0x00][..], &[0; 8_188]].concat();
+    let case = |name, input, outcome, plain| Case {
+        name,
+        input,
+        outcome,
+        plain,
+    };
+    vec![
+        case("status read, 1 byte", vec![0x05, 0], "read", Plain::None),
+        case("write enable", vec![0x06], "control", Plain::None),
+        case("program, 1 byte", program(1), "begun", Plain::None),
+        case("program, 256 bytes", program(256), "begun", Plain::None),
+        case("4-KiB erase", vec![0x20, 0x00, 0x40, 0x00], "begun", Plain::Fill(4_096)),
+        case("chip erase, 131,072 bytes", vec![0xC7], "begun", Plain::Fill(131_072)),
+        case("read, 8,188 bytes", read, "read", Plain::Copy(8_188)),
+    ]
+}
+
+/// The proved part, the model, and the plain way if there is one.
+fn contenders(case: &Case) -> Vec<Contender> {
+    let mut contenders = vec![Contender::new(proved(case)), Contender::new(modelled(case))];
+    match case.plain {
+        Plain::None => {}
+        Plain::Copy(bytes) => contenders.push(Contender::new(copy(bytes))),
+        Plain::Fill(bytes) => contenders.push(Contender::new(fill(bytes))),
+    }
+    contenders
+}
+
+impl Contender {
+    /// Warms up, and finds how many times make a round.
+    fn new(mut repeat: Box<dyn FnMut(u64)>) -> Contender {
+        let mut times = 1;
+        loop {
+            let start = Instant::now();
+            repeat(times);
+            let taken = start.elapsed();
+            if taken >= ROUND / 4 {
+                let wanted = times as f64 * ROUND.as_secs_f64() / taken.as_secs_f64();
+                return Contender {
+                    repeat,
+                    times: (wanted as u64).max(1),
+                    best: f64::INFINITY,
+                };
+            }
+            times *= 2;
+        }
+    }
+
+    /// One round; its nanoseconds for one time are kept if they are the fewest so far.
+    fn measure(&mut self) {
+        let start = Instant::now();
+        (self.repeat)(self.times);
+        let nanoseconds = start.elapsed().as_secs_f64() * 1e9 / self.times as f64;
+        self.best = self.best.min(nanoseconds);
+    }
+}
+
+/// The frame on the proved part, through the safe wrapper.
+fn proved(case: &Case) -> Box<dyn FnMut(u64)> {
+    let (input, outcome) = (case.input.clone(), case.outcome);
+    let (mut array, mut register, mut output) = memories(input.len());
+    let ready = oxterin::Record {
+        wel: true,
+        ..oxterin::Record::fresh(false, false, false)
+    };
+    let settings = oxterin::Settings::typical();
+    let signals = oxterin::Signals::whole(&input);
+    let mut frame = move || {
+        let mut record = black_box(ready);
+        let answer = oxterin::frame(
+            &mut record,
+            &settings,
+            &mut array,
+            &mut register,
+            black_box(&input),
+            signals,
+            &mut output,
+        );
+        black_box((&array, &output, record));
+        answer
+    };
+    assert_eq!(frame().map(|answer| answer.outcome.word()), Ok(outcome));
+    Box::new(move |times| {
+        for _ in 0..times {
+            let _ = black_box(frame());
+        }
+    })
+}
+
+/// The frame on the model.
+fn modelled(case: &Case) -> Box<dyn FnMut(u64)> {
+    let (input, outcome) = (case.input.clone(), case.outcome);
+    let (mut array, mut register, mut output) = memories(input.len());
+    let ready = model::Record {
+        wel: true,
+        ..model::Record::fresh(false, false, false)
+    };
+    let settings = model::Settings::typical();
+    let pins = model::Pins {
+        bits: 8 * input.len() as u64,
+        wp_high: true,
+        elapsed: 0,
+    };
+    let mut frame = move || {
+        let answer = model::frame(
+            black_box(ready),
+            &settings,
+            &mut array,
+            &mut register,
+            black_box(&input),
+            pins,
+            &mut output,
+        );
+        black_box((&array, &output));
+        answer
+    };
+    assert_eq!(format!("{:?}", frame().outcome).to_lowercase(), outcome);
+    Box::new(move |times| {
+        for _ in 0..times {
+            black_box(frame());
+        }
+    })
+}
+
+/// An array, a register and an output buffer for so many input bytes.
+fn memories(input: usize) -> (Vec<u8>, Vec<u8>, Vec<u8>) {
+    let array = (0..131_072u32).map(|place| (place * 7 / 5) as u8).collect();
+    (array, vec![0xFF; 128], vec![0; input])
+}
+
+/// A plain copy of so many bytes.
+fn copy(bytes: usize) -> Box<dyn FnMut(u64)> {
+    let (array, _, mut output) = memories(bytes);
+    Box::new(move |times| {
+        for _ in 0..times {
+            output.copy_from_slice(black_box(&array[..bytes]));
+            black_box(&output);
+        }
+    })
+}
+
+/// A plain fill of so many bytes.
+fn fill(bytes: usize) -> Box<dyn FnMut(u64)> {
+    let (mut array, _, _) = memories(0);
+    Box::new(move |times| {
+        for _ in 0..times {
+            black_box(&mut array[..bytes]).fill(0xFF);
+            black_box(&array);
+        }
+    })
+}
+
+/// Says on what and how the times were taken.
+fn print_conditions() {
+    println!("Machine: {}, {}", std::env::consts::ARCH, processor());
+    println!("Proved library: {}", oxterin::BUILT);
+    println!("Array of 131,072 bytes. Best of {ROUNDS} rounds of about {ROUND:?} each, the contenders in turn.");
+    println!("Buffers were warmed up and are not cleared between frames.");
+    println!("Each frame is handed a record with WEL set and no busy ticks by value, so that every program and erase begins; no other");
+    println!("frame is in its time. The proved part is called through the safe wrapper.");
+    println!();
+}
+
+/// The processor's name, from the system's files or else from `lscpu`.
+fn processor() -> String {
+    let listed = Command::new("lscpu").output().map(|told| told.stdout).unwrap_or_default();
+    let known = std::fs::read_to_string("/proc/cpuinfo").unwrap_or_default() + &String::from_utf8_lossy(&listed);
+    let name = known.lines().filter_map(|line| line.split_once(':'));
+    let mut name = name.filter(|(key, _)| key.trim().eq_ignore_ascii_case("model name"));
+    name.next()
+        .map_or("an unnamed processor".to_string(), |(_, value)| value.trim().to_string())
+}
+
+/// A row for each frame, with the least times.
+fn print_table(cases: &[Case], contenders: &[Vec<Contender>]) {
+    println!("| frame | proved, ns | proved, frames/s | model, ns | model, frames/s | proved / model | copy or fill, ns | proved / copy or fill |");
+    println!("|---|--:|--:|--:|--:|--:|--:|--:|");
+    for (case, contenders) in cases.iter().zip(contenders) {
+        let proved = contenders[0].best;
+        let model = contenders[1].best;
+        let plain = contenders.get(2).map(|plain| plain.best);
+        println!(
+            "| {} | {} | {} | {} | {} | {} | {} | {} |",
+            case.name,
+            short(proved),
+            short(1e9 / proved),
+            short(model),
+            short(1e9 / model),
+            short(proved / model),
+            plain.map_or("-".to_string(), short),
+            plain.map_or("-".to_string(), |plain| short(proved / plain)),
+        );
+    }
+}
+
+/// A number with three digits that count, thousands set apart.
+fn short(number: f64) -> String {
+    match number {
+        number if number < 0.1 => format!("{number:.4}"),
+        number if number < 1.0 => format!("{number:.3}"),
+        number if number < 10.0 => format!("{number:.2}"),
+        number if number < 100.0 => format!("{number:.1}"),
+        number => grouped(&format!("{number:.0}")),
+    }
+}
+
+/// Digits with a comma before every third from the end.
+fn grouped(digits: &str) -> String {
+    let mut text = String::new();
+    for (place, digit) in digits.chars().enumerate() {
+        if place > 0 && (digits.len() - place).is_multiple_of(3) {
+            text.push(',');
+        }
+        text.push(digit);
+    }
+    text
+}

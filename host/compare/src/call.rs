@@ -1,0 +1,75 @@
+//! One call: how much memory is lent, and all that is handed over with it.
+use model::Settings;
+use oxterin::Record;
+
+/// Bytes that lie past every lent part; no side may touch them.
+pub const GUARD: usize = 16;
+
+/// Bytes by which the usual output buffer is longer than the input.
+pub const SPARE: usize = 8;
+
+/// The longest array that a call can lend.
+pub const ARRAY_ROOM: usize = 131_072 + GUARD;
+
+/// The longest register that a call can lend.
+pub const REGISTER_ROOM: usize = 128 + GUARD;
+
+/// The longest output buffer that a call can lend.
+pub const OUTPUT_ROOM: usize = 8_192 + GUARD;
+
+/// The arguments of one call. Memories are given by their lengths: a [`crate::Trial`] lends so much of its own.
+#[derive(Clone, Debug, PartialEq, Eq)]
+pub struct Call {
+    /// How many bytes of the array are lent, at most [`ARRAY_ROOM`].
+    pub array: usize,
+    /// How many bytes of the register are lent, at most [`REGISTER_ROOM`].
+    pub register: usize,
+    /// The length of the output buffer, at most [`OUTPUT_ROOM`].
+    pub output: usize,
+    /// The eight durations.
+    pub durations: [u64; 8],
+    /// The input bytes.
+    pub input: Vec<u8>,
+    /// The bits clocked.
+    pub bits: u64,
+    /// The level of WP.
+    pub wp_high: bool,
+    /// The ticks elapsed.
+    pub elapsed: u64,
+    /// The record handed over, if it is not the one that the call before gave back.
+    pub record: Option<Record>,
+}
+
+impl Call {
+    /// All bits of these bytes to a part of 131,072 bytes with typical durations, WP high, no time elapsed.
+    #[must_use]
+    pub fn of(input: &[u8]) -> Call {
+        Call {
+            array: 131_072,
+            register: 128,
+            output: usual_output(input.len()),
+            durations: usual_durations(),
+            input: input.to_vec(),
+            bits: 8 * input.len() as u64,
+            wp_high: true,
+            elapsed: 0,
+            record: None,
+        }
+    }
+
+    /// The opcode, if there is a byte for one.
+    #[must_use]
+    pub fn opcode(&self) -> Option<u8> {
+        self.input.first().copied()
+    }
+}
+
+/// The durations that a call usually has.
+pub(crate) fn usual_durations() -> [u64; 8] {
+    Settings::typical().durations
+}
+
+/// The length of the output buffer that usually goes with so many input bytes.
+pub(crate) fn usual_output(input: usize) -> usize {
+    (input + SPARE).min(OUTPUT_ROOM)
+}

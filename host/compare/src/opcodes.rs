@@ -1,0 +1,10 @@
+//! The listed opcodes, sorted by what a frame with one of them can come to.
+
+/// Opcodes whose frames read.
+pub const READS: [u8; 6] = [0x03, 0x0B, 0x77, 0x05, 0x9F, 0x15];
+
+/// Opcodes whose frames are carried out as control commands.
+pub const CONTROLS: [u8; 7] = [0x06, 0x04, 0xB9, 0x79, 0xAB, 0xF0, 0x31];
+
+/// Opcodes whose frames begin an operation.
+pub const CHANGES: [u8; 10] = [0x02, 0x81, 0x20, 0x52, 0xD8, 0x60, 0x62, 0xC7, 0x9B, 0x01];

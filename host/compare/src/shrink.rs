@@ -1,0 +1,177 @@
+//! Cutting a failing series down to what is needed for the failure.
+use crate::call::{usual_durations, Call};
+use oxterin::{Mode, Record};
+
+/// The smallest series found that still fails: calls dropped, inputs shortened, bytes zeroed, numbers reduced.
+/// The series handed in has to fail.
+#[must_use]
+pub fn shrink(calls: Vec<Call>, fails: impl Fn(&[Call]) -> bool) -> Vec<Call> {
+    let mut calls = calls;
+    loop {
+        let before = calls.clone();
+        drop_calls(&mut calls, &fails);
+        for place in 0..calls.len() {
+            plain_fields(&mut calls, place, &fails);
+            shorter_input(&mut calls, place, &fails);
+            zeroed_input(&mut calls, place, &fails);
+            smaller_numbers(&mut calls, place, &fails);
+        }
+        if calls == before {
+            return calls;
+        }
+    }
+}
+
+/// Drops runs of calls, long ones first.
+fn drop_calls(calls: &mut Vec<Call>, fails: &impl Fn(&[Call]) -> bool) {
+    let mut run = calls.len();
+    while run > 0 {
+        let mut end = calls.len();
+        while end > 0 {
+            let start = end.saturating_sub(run);
+            let shorter = [&calls[..start], &calls[end..]].concat();
+            if fails(&shorter) {
+                *calls = shorter;
+            }
+            end = start;
+        }
+        run /= 2;
+    }
+}
+
+/// Keeps a change of one call if the series still fails with it, and says whether it does.
+fn keep(calls: &mut [Call], place: usize, fails: &impl Fn(&[Call]) -> bool, change: impl FnOnce(&mut Call)) -> bool {
+    let before = calls[place].clone();
+    change(&mut calls[place]);
+    let kept = calls[place] != before && fails(calls);
+    if !kept {
+        calls[place] = before;
+    }
+    kept
+}
+
+/// Makes each unusual argument the usual one.
+fn plain_fields(calls: &mut [Call], place: usize, fails: &impl Fn(&[Call]) -> bool) {
+    let usual = Call::of(&calls[place].input);
+    keep(calls, place, fails, |call| call.record = None);
+    keep(calls, place, fails, |call| call.array = usual.array);
+    keep(calls, place, fails, |call| call.register = usual.register);
+    keep(calls, place, fails, |call| call.output = usual.output);
+    for kind in 0..usual.durations.len() {
+        keep(calls, place, fails, |call| call.durations[kind] = usual.durations[kind]);
+    }
+    keep(calls, place, fails, |call| call.bits = usual.bits);
+    keep(calls, place, fails, |call| call.wp_high = true);
+}
+
+/// Cuts bytes off the input, many first.
+fn shorter_input(calls: &mut [Call], place: usize, fails: &impl Fn(&[Call]) -> bool) {
+    let mut cut = calls[place].input.len();
+    while cut > 0 {
+        while cut <= calls[place].input.len() && keep(calls, place, fails, |call| cut_off(call, cut)) {}
+        cut /= 2;
+    }
+}
+
+/// Takes the last bytes off an input, and off the bits and the output what belonged to them.
+fn cut_off(call: &mut Call, cut: usize) {
+    call.input.truncate(call.input.len() - cut);
+    call.bits = call.bits.saturating_sub(8 * cut as u64);
+    call.output = call.output.saturating_sub(cut);
+}
+
+/// Makes runs of input bytes 0, long ones first.
+fn zeroed_input(calls: &mut [Call], place: usize, fails: &impl Fn(&[Call]) -> bool) {
+    let length = calls[place].input.len();
+    let mut run = length;
+    while run > 0 {
+        for start in (0..length).step_by(run) {
+            let end = length.min(start + run);
+            keep(calls, place, fails, |call| call.input[start..end].fill(0));
+        }
+        run /= 2;
+    }
+}
+
+/// Makes the unusual numbers of a call 0, or else smaller.
+fn smaller_numbers(calls: &mut [Call], place: usize, fails: &impl Fn(&[Call]) -> bool) {
+    reduce(calls, place, fails, |call| Some(&mut call.elapsed));
+    reduce(calls, place, fails, |call| {
+        let usual = 8 * call.input.len() as u64;
+        Some(&mut call.bits).filter(|bits| **bits != usual)
+    });
+    reduce(calls, place, fails, |call| call.record.as_mut().map(|record| &mut record.busy));
+    for (kind, usual) in usual_durations().into_iter().enumerate() {
+        reduce(calls, place, fails, |call| {
+            Some(&mut call.durations[kind]).filter(|duration| **duration != usual)
+        });
+    }
+    for clear in CLEAR {
+        keep(calls, place, fails, |call| {
+            if let Some(record) = &mut call.record {
+                clear(record);
+            }
+        });
+    }
+}
+
+/// What makes a record plainer.
+const CLEAR: [fn(&mut Record); 6] = [
+    |record| record.bpl = false,
+    |record| record.bp0 = false,
+    |record| record.wel = false,
+    |record| record.rste = false,
+    |record| record.otp_used = false,
+    |record| record.mode = Mode::Awake,
+];
+
+/// Takes as much off a number as will do, in steps that halve, beginning with the whole of it.
+fn reduce(calls: &mut [Call], place: usize, fails: &impl Fn(&[Call]) -> bool, number: impl Fn(&mut Call) -> Option<&mut u64>) {
+    let mut step = number(&mut calls[place]).map_or(0, |number| *number);
+    while step > 0 {
+        keep(calls, place, fails, |call| {
+            if let Some(number) = number(call) {
+                *number = number.saturating_sub(step);
+            }
+        });
+        step /= 2;
+    }
+}
+
+#[cfg(test)]
+mod tests {
+    use super::*;
+    use crate::generator::Generator;
+    use crate::random::Random;
+
+    #[test]
+    fn what_a_failure_needs_remains_and_nothing_else() {
+        let mut generator = Generator::new(Random::seeded(3), 131_072);
+        let record = Record::fresh(false, false, false);
+        let mut calls: Vec<Call> = (0..300).map(|_| generator.call(&record)).collect();
+        calls[100] = Call {
+            elapsed: 1 << 40,
+            wp_high: false,
+            ..Call::of(&[0x02, 1, 2, 3, 4, 5, 6])
+        };
+        calls[200] = Call {
+            bits: 31,
+            record: Some(Record { busy: 99, ..record }),
+            ..Call::of(&[0x20, 0x77, 0x77, 0x77])
+        };
+        let shrunk = shrink(calls, |calls| {
+            let program = calls.iter().position(|call| call.opcode() == Some(0x02) && call.elapsed >= 1_000);
+            let erase = calls.iter().rposition(|call| call.opcode() == Some(0x20) && call.bits % 8 > 2);
+            program.zip(erase).is_some_and(|(program, erase)| program < erase)
+        });
+        let program = Call {
+            elapsed: 1_000,
+            ..Call::of(&[0x02])
+        };
+        let erase = Call {
+            bits: 3,
+            ..Call::of(&[0x20])
+        };
+        assert_eq!(shrunk, [program, erase]);
+    }
+}

@@ -1,0 +1,252 @@
+//! The three sides: the proved face by words, the wrapper over it, the model. Each has memories and an output buffer of its own.
+use crate::call::{Call, ARRAY_ROOM, GUARD, OUTPUT_ROOM, REGISTER_ROOM};
+use crate::reply::{word, words_of, Reply};
+use oxterin::{raw, Record, Settings, Signals};
+use std::panic::{catch_unwind, AssertUnwindSafe};
+
+/// What an output buffer holds before a call: it tells places apart, and is never FFh, which an undriven position reads.
+pub(crate) static CANARY: [u8; OUTPUT_ROOM + GUARD] = canary();
+
+/// The bytes of [`CANARY`].
+const fn canary() -> [u8; OUTPUT_ROOM + GUARD] {
+    let mut bytes = [0; OUTPUT_ROOM + GUARD];
+    let mut place = 0;
+    while place < bytes.len() {
+        bytes[place] = 1 + (place % 251) as u8;
+        place += 1;
+    }
+    bytes
+}
+
+/// An array and a register, each with a guard past the longest part that is lent.
+#[derive(Clone, Debug, PartialEq, Eq)]
+pub(crate) struct Memories {
+    /// The array and its guard.
+    pub(crate) array: Vec<u8>,
+    /// The register and its guard.
+    pub(crate) register: Vec<u8>,
+}
+
+impl Memories {
+    /// Memories whose bytes tell places, pages, blocks and the two memories apart, so that an erase, a wrong program or a misplaced
+    /// read shows.
+    pub(crate) fn patterned() -> Memories {
+        Memories {
+            array: pattern(0, ARRAY_ROOM + GUARD),
+            register: pattern(0x40_0000, REGISTER_ROOM + GUARD),
+        }
+    }
+
+    /// Takes over the bytes of others.
+    pub(crate) fn copy(&mut self, others: &Memories) {
+        self.array.copy_from_slice(&others.array);
+        self.register.copy_from_slice(&others.register);
+    }
+}
+
+/// So many bytes that seem to follow no order, each given by its place, counted from `first`.
+fn pattern(first: u32, length: usize) -> Vec<u8> {
+    (first..first + length as u32)
+        .map(|place| (place.wrapping_mul(0x9E37_79B1) >> 24) as u8)
+        .collect()
+}
+
+/// What a call lends to a side.
+pub(crate) struct Lent<'a> {
+    /// The array.
+    pub(crate) array: &'a mut [u8],
+    /// The register.
+    pub(crate) register: &'a mut [u8],
+    /// The output buffer.
+    pub(crate) output: &'a mut [u8],
+}
+
+/// How a side carries a call out.
+pub(crate) type Run = fn(&Call, &Record, Lent<'_>) -> Reply;
+
+/// One side with what it works on.
+pub(crate) struct Side {
+    /// What a difference calls it.
+    pub(crate) name: &'static str,
+    /// How it carries a call out.
+    pub(crate) run: Run,
+    /// Its own memories.
+    pub(crate) memories: Memories,
+    /// Its output buffer after the last call, with a guard.
+    pub(crate) output: Vec<u8>,
+}
+
+impl Side {
+    /// A side that has not run yet.
+    pub(crate) fn new(name: &'static str, run: Run) -> Side {
+        Side {
+            name,
+            run,
+            memories: Memories::patterned(),
+            output: Vec::with_capacity(CANARY.len()),
+        }
+    }
+
+    /// Carries a call out on a fresh output buffer. None if the side panicked.
+    pub(crate) fn answer(&mut self, call: &Call, record: &Record) -> Option<Reply> {
+        self.output.clear();
+        self.output.extend_from_slice(&CANARY[..call.output + GUARD]);
+        let lent = Lent {
+            array: &mut self.memories.array[..call.array],
+            register: &mut self.memories.register[..call.register],
+            output: &mut self.output[..call.output],
+        };
+        let run = self.run;
+        catch_unwind(AssertUnwindSafe(|| run(call, record, lent))).ok()
+    }
+}
+
+/// The proved face, by words.
+pub(crate) fn by_words(call: &Call, record: &Record, lent: Lent<'_>) -> Reply {
+    let mut words = words_of(record);
+    let mut answer = [u64::MAX; raw::ANSWER];
+    let refusal = raw::frame(
+        &mut words,
+        &call.durations,
+        &[call.bits, call.wp_high.into(), call.elapsed],
+        lent.array,
+        lent.register,
+        &call.input,
+        lent.output,
+        &mut answer,
+    );
+    let [outcome, first, driven] = answer;
+    Reply {
+        refusal,
+        outcome: word(outcome),
+        first,
+        driven,
+        record: words,
+    }
+}
+
+/// The proved part, through the safe wrapper.
+pub(crate) fn by_wrapper(call: &Call, record: &Record, lent: Lent<'_>) -> Reply {
+    let mut after = *record;
+    let signals = Signals {
+        bits: call.bits,
+        wp_high: call.wp_high,
+        elapsed: call.elapsed,
+    };
+    let settings = settings_of(&call.durations);
+    match oxterin::frame(&mut after, &settings, lent.array, lent.register, &call.input, signals, lent.output) {
+        Err(refusal) => Reply::refused(refusal.number().into(), &after),
+        Ok(answer) => Reply {
+            refusal: 0,
+            outcome: answer.outcome.word(),
+            first: answer.first as u64,
+            driven: answer.driven as u64,
+            record: words_of(&after),
+        },
+    }
+}
+
+/// The wrapper's settings, named one by one without its help.
+fn settings_of(durations: &[u64; 8]) -> Settings {
+    Settings {
+        byte_program: durations[0],
+        longer_program: durations[1],
+        page_erase: durations[2],
+        erase_4k: durations[3],
+        erase_32k: durations[4],
+        chip_erase: durations[5],
+        otp_program: durations[6],
+        status_write: durations[7],
+    }
+}
+
+/// The model.
+pub(crate) fn by_model(call: &Call, record: &Record, lent: Lent<'_>) -> Reply {
+    let settings = model::Settings { durations: call.durations };
+    let pins = model::Pins {
+        bits: call.bits,
+        wp_high: call.wp_high,
+        elapsed: call.elapsed,
+    };
+    let answer = model::frame(
+        model_record(record),
+        &settings,
+        lent.array,
+        lent.register,
+        &call.input,
+        pins,
+        lent.output,
+    );
+    Reply {
+        refusal: answer.refusal.into(),
+        outcome: model_word(answer.outcome),
+        first: answer.first as u64,
+        driven: answer.driven as u64,
+        record: words_of(&proved_record(&answer.record)),
+    }
+}
+
+/// The word for one of the model's outcomes.
+fn model_word(outcome: model::Outcome) -> &'static str {
+    match outcome {
+        model::Outcome::Nothing => "nothing",
+        model::Outcome::Read => "read",
+        model::Outcome::Control => "control",
+        model::Outcome::Aborted => "aborted",
+        model::Outcome::Begun => "begun",
+    }
+}
+
+/// A record as the model has it.
+fn model_record(record: &Record) -> model::Record {
+    model::Record {
+        bpl: record.bpl,
+        bp0: record.bp0,
+        wel: record.wel,
+        rste: record.rste,
+        otp_used: record.otp_used,
+        mode: match record.mode {
+            oxterin::Mode::Awake => model::Mode::Awake,
+            oxterin::Mode::Deep => model::Mode::Deep,
+            oxterin::Mode::UltraDeep => model::Mode::UltraDeep,
+        },
+        busy: record.busy,
+    }
+}
+
+/// A record of the model as the proved part has it.
+fn proved_record(record: &model::Record) -> Record {
+    Record {
+        bpl: record.bpl,
+        bp0: record.bp0,
+        wel: record.wel,
+        rste: record.rste,
+        otp_used: record.otp_used,
+        mode: match record.mode {
+            model::Mode::Awake => oxterin::Mode::Awake,
+            model::Mode::Deep => oxterin::Mode::Deep,
+            model::Mode::UltraDeep => oxterin::Mode::UltraDeep,
+        },
+        busy: record.busy,
+    }
+}
+
+#[cfg(test)]
+mod tests {
+    use super::*;
+
+    #[test]
+    fn the_pattern_tells_places_apart() {
+        let Memories { array, register } = Memories::patterned();
+        for distance in [1, 2, 64, 128, 256, 4_096, 32_768, 65_536] {
+            assert!(array.iter().zip(&array[distance..]).all(|(byte, other)| byte != other));
+        }
+        assert!(register.iter().zip(&register[64..]).all(|(byte, other)| byte != other));
+        assert!(register.iter().zip(&array).all(|(byte, other)| byte != other));
+    }
+
+    #[test]
+    fn the_canary_is_never_what_an_undriven_position_reads() {
+        assert!(!CANARY.contains(&0xFF));
+    }
+}

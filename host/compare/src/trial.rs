@@ -1,0 +1,270 @@
+//! A trial: the three sides on memories that began alike, call after call.
+use crate::call::Call;
+use crate::difference::Difference;
+use crate::opcodes::CHANGES;
+use crate::reply::{record_of, Reply};
+use crate::side::{by_model, by_words, by_wrapper, Memories, Run, Side, CANARY};
+use oxterin::{Mode, Record};
+
+/// How often the memories are compared whole.
+#[derive(Clone, Copy, Debug, PartialEq, Eq)]
+pub enum Care {
+    /// After every call.
+    Always,
+    /// Before and after a call that may begin an operation, and when asked. Nothing else may change a byte, so no difference can be
+    /// wiped out unseen, but it may be seen some calls late.
+    WhenDue,
+}
+
+/// The place of the model among the sides.
+const MODEL: usize = 2;
+
+/// Three sides, the memories as they have to stand, and the record that the next call is given.
+pub struct Trial {
+    /// The face, the wrapper and the model.
+    sides: [Side; 3],
+    /// The memories as the last operation left them.
+    kept: Memories,
+    /// What memories begin with.
+    pattern: Memories,
+    /// The record that the last call gave back.
+    record: Record,
+    /// How often the memories are compared.
+    care: Care,
+}
+
+impl Trial {
+    /// A trial whose memories hold a pattern and whose record is fresh.
+    #[must_use]
+    pub fn new(care: Care) -> Trial {
+        Trial::of([("the face", by_words), ("the wrapper", by_wrapper), ("the model", by_model)], care)
+    }
+
+    /// A trial of any sides, the last of which is the model.
+    fn of(sides: [(&'static str, Run); 3], care: Care) -> Trial {
+        Trial {
+            sides: sides.map(|(name, run)| Side::new(name, run)),
+            kept: Memories::patterned(),
+            pattern: Memories::patterned(),
+            record: Record::fresh(false, false, false),
+            care,
+        }
+    }
+
+    /// The record that the last call gave back.
+    #[must_use]
+    pub fn record(&self) -> &Record {
+        &self.record
+    }
+
+    /// Runs a call on all sides, and gives what they agree on.
+    ///
+    /// # Errors
+    ///
+    /// The sides differ, in this call or, with [`Care::WhenDue`], in the memories that an earlier one left.
+    pub fn run(&mut self, call: &Call) -> Result<Reply, Difference> {
+        let before = call.record.unwrap_or(self.record);
+        if self.care == Care::WhenDue && may_begin(&before, call) {
+            self.check()?;
+        }
+        let replies = self.sides.each_mut().map(|side| side.answer(call, &before));
+        let Some(reply) = replies[MODEL] else {
+            return Err(Difference::panic(self.sides[MODEL].name));
+        };
+        let mut found = Difference::default();
+        let owed = owed(&reply, &before);
+        for (side, reply) in self.sides.iter().zip(replies) {
+            found.reply(side.name, reply, &owed);
+        }
+        self.compare_outputs(call, &reply, &mut found);
+        if reply.outcome == "begun" {
+            self.kept.copy(&self.sides[MODEL].memories);
+        }
+        if self.care == Care::Always || reply.outcome == "begun" || !found.is_empty() {
+            self.compare_memories(&mut found);
+        }
+        found.verdict()?;
+        self.record = record_of(&reply.record).expect("the model's record has words");
+        Ok(reply)
+    }
+
+    /// Compares the memories of all sides whole with what they have to be.
+    ///
+    /// # Errors
+    ///
+    /// A byte differs.
+    pub fn check(&self) -> Result<(), Difference> {
+        let mut found = Difference::default();
+        self.compare_memories(&mut found);
+        found.verdict()
+    }
+
+    /// Begins anew with patterned memories and a fresh record, the old memories having been compared.
+    ///
+    /// # Errors
+    ///
+    /// A byte of the old memories differs.
+    pub fn reset(&mut self) -> Result<(), Difference> {
+        self.check()?;
+        for side in &mut self.sides {
+            side.memories.copy(&self.pattern);
+        }
+        self.kept.copy(&self.pattern);
+        self.record = Record::fresh(false, false, false);
+        Ok(())
+    }
+
+    /// The written bytes are the model's, and all others are as before the call.
+    fn compare_outputs(&self, call: &Call, reply: &Reply, found: &mut Difference) {
+        let written = if reply.refusal == 0 { call.input.len().min(call.output) } else { 0 };
+        let model = &self.sides[MODEL].output;
+        for side in &self.sides {
+            let (output, rest) = side.output.split_at(written);
+            found.bytes(side.name, "output", output, &model[..written]);
+            found.bytes(side.name, "byte past the output", rest, &CANARY[written..side.output.len()]);
+        }
+    }
+
+    /// Every byte of every memory is as it has to be, the guards too.
+    fn compare_memories(&self, found: &mut Difference) {
+        for side in &self.sides {
+            found.bytes(side.name, "array", &side.memories.array, &self.kept.array);
+            found.bytes(side.name, "register", &side.memories.register, &self.kept.register);
+        }
+    }
+}
+
+/// What the model's answer obliges every side to, itself too: a refusal gives the record back as it came.
+fn owed(model: &Reply, before: &Record) -> Reply {
+    if model.refusal == 0 {
+        *model
+    } else {
+        Reply::refused(model.refusal, before)
+    }
+}
+
+/// Whether an operation may begin, and cover up what a call before it did wrong.
+fn may_begin(record: &Record, call: &Call) -> bool {
+    record.wel && record.mode == Mode::Awake && record.busy <= call.elapsed && call.opcode().is_some_and(|opcode| CHANGES.contains(&opcode))
+}
+
+#[cfg(test)]
+mod tests {
+    use super::*;
+    use crate::side::Lent;
+
+    /// A write enable, an aborted program, a refused call, a read and an erase of the page that the program aimed at.
+    fn calls() -> Vec<Call> {
+        let enable = Call::of(&[0x06]);
+        let aborted = Call {
+            bits: 39,
+            ..Call::of(&[0x02, 0, 0x10, 0, 0])
+        };
+        let refused = Call {
+            register: 127,
+            ..Call::of(&[0x06])
+        };
+        let read = Call::of(&[0x03, 0, 0, 0, 0, 0]);
+        let erase = Call::of(&[0x81, 0, 0x10, 0]);
+        vec![enable.clone(), aborted, refused, read, enable, erase]
+    }
+
+    /// The place of the first call that shows a difference when the face is replaced by this run.
+    fn first_difference(face: Run, care: Care) -> Option<usize> {
+        let mut trial = Trial::of([("a sham", face), ("the wrapper", by_wrapper), ("the model", by_model)], care);
+        calls().iter().position(|call| trial.run(call).is_err())
+    }
+
+    #[test]
+    fn the_sides_agree() {
+        assert_eq!(first_difference(by_words, Care::Always), None);
+        assert_eq!(first_difference(by_words, Care::WhenDue), None);
+    }
+
+    #[test]
+    fn a_wrong_field_is_a_difference() {
+        let shams: [Run; 5] = [
+            |call, record, lent| Reply {
+                refusal: 7,
+                ..by_words(call, record, lent)
+            },
+            |call, record, lent| Reply {
+                outcome: "read",
+                ..by_words(call, record, lent)
+            },
+            |call, record, lent| Reply {
+                first: 1,
+                ..by_words(call, record, lent)
+            },
+            |call, record, lent| Reply {
+                driven: 1,
+                ..by_words(call, record, lent)
+            },
+            |call, record, lent| Reply {
+                record: [0; 7],
+                ..by_words(call, record, lent)
+            },
+        ];
+        for sham in shams {
+            assert_eq!(first_difference(sham, Care::WhenDue), Some(0));
+        }
+    }
+
+    #[test]
+    fn a_panic_is_a_difference() {
+        assert_eq!(first_difference(|_, _, _| panic!("a sham's panic"), Care::WhenDue), Some(0));
+    }
+
+    #[test]
+    fn a_byte_written_past_the_output_is_a_difference() {
+        let sham: Run = |call, record, mut lent| {
+            lent.output[call.input.len()] = 0;
+            by_words(call, record, whole(&mut lent))
+        };
+        assert_eq!(first_difference(sham, Care::WhenDue), Some(0));
+    }
+
+    #[test]
+    fn a_refused_call_that_changes_a_byte_is_a_difference() {
+        let sham: Run = |call, record, mut lent| {
+            let reply = by_words(call, record, whole(&mut lent));
+            if reply.refusal != 0 {
+                lent.array[0x1_FFFF] ^= 1;
+            }
+            reply
+        };
+        assert_eq!(first_difference(sham, Care::Always), Some(2));
+        assert_eq!(first_difference(sham, Care::WhenDue), Some(5));
+    }
+
+    #[test]
+    fn a_change_that_an_erase_would_cover_up_is_seen_before_it() {
+        let sham: Run = |call, record, mut lent| {
+            let reply = by_words(call, record, whole(&mut lent));
+            if reply.outcome == "read" {
+                lent.array[0x1000] ^= 1;
+            }
+            reply
+        };
+        assert_eq!(first_difference(sham, Care::Always), Some(3));
+        assert_eq!(first_difference(sham, Care::WhenDue), Some(5));
+    }
+
+    #[test]
+    fn a_reset_sees_the_old_memories() {
+        let mut trial = Trial::new(Care::WhenDue);
+        trial.sides[0].memories.register[127] ^= 1;
+        assert!(trial.reset().is_err());
+        trial.sides[0].memories.register[127] ^= 1;
+        assert_eq!(trial.reset(), Ok(()));
+    }
+
+    /// The same lent parts, lent on.
+    fn whole<'a>(lent: &'a mut Lent<'_>) -> Lent<'a> {
+        Lent {
+            array: lent.array,
+            register: lent.register,
+            output: lent.output,
+        }
+    }
+}
