@@ -1,4 +1,4 @@
-/* Oxterin: a simulated AT25XE011 serial flash whose every function is proved to answer as the data sheet's rules say.
+/* Oxterin: a simulated AT25XE011 serial flash, over a library whose every function is proved to answer as the data sheet's rules say.
  *
  * Link target/library/liboxterin.a, which host/library builds. A first frame:
  *
@@ -13,7 +13,7 @@
  *
  * Nothing is kept between calls but what you hand in again: the record, the array and the security register. Calls on different parts
  * may run at the same time. Memories that are written (record, array, register, output, answer) must not overlap anything else that the
- * same call is handed. A null pointer counts as a memory of length 0.
+ * same call is handed. A null array, register, input or output counts as one of length 0; record, settings and answer are never null.
  *
  * C11 or C++17; needs nothing but this file and the library.
  */
@@ -70,7 +70,7 @@ typedef struct {
     uint64_t elapsed; /* ticks elapsed since the call before */
 } oxterin_signals;
 
-/* Why a call was refused. A refused call has changed nothing, and its elapsed ticks do not count. */
+/* Why a call was refused. Record, memories and output are then as they were, and the elapsed ticks do not count. */
 typedef enum {
     OXTERIN_ACCEPTED = 0,
     OXTERIN_ARRAY_LENGTH = 1,    /* the array has neither 131,072 nor 65,536 bytes */
@@ -80,7 +80,7 @@ typedef enum {
     OXTERIN_OUTPUT_LENGTH = 5,   /* the output buffer is shorter than the input */
     OXTERIN_RECORD = 6,          /* more than 60,000,000 busy ticks left, or any in a part that is asleep */
     OXTERIN_DURATION = 7,        /* a duration is 0 or over 60,000,000 */
-    OXTERIN_UNREAD = 255         /* a mode or a memory that does not exist */
+    OXTERIN_UNREAD = 255         /* a mode that does not exist */
 } oxterin_refusal;
 
 /* What became of an accepted frame. */
@@ -141,7 +141,7 @@ static inline oxterin_record oxterin_unpack_record(const uint64_t words[7]) {
     record.wel = words[2] == 1;
     record.rste = words[3] == 1;
     record.otp_used = words[4] == 1;
-    record.mode = (oxterin_mode)words[5];
+    record.mode = words[5] == 0 ? OXTERIN_AWAKE : words[5] == 1 ? OXTERIN_DEEP : OXTERIN_ULTRA_DEEP;
     record.busy = words[6];
     return record;
 }
@@ -274,7 +274,7 @@ static inline const char *oxterin_refusal_text(oxterin_refusal refusal) {
     case OXTERIN_DURATION:
         return "a duration is 0 or over 60,000,000 ticks";
     case OXTERIN_UNREAD:
-        return "a mode or a memory that does not exist";
+        return "a mode that does not exist";
     }
     return "unknown";
 }

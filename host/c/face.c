@@ -73,6 +73,8 @@ static void refusals(void) {
           OXTERIN_ARRAY_LENGTH);
     CHECK(oxterin_send_frame(&record, &settings, oxterin_whole_bytes(2, 9), array, 131072, NULL, 128, poll, 2, output, 2, &answer) ==
           OXTERIN_REGISTER_LENGTH);
+    CHECK(oxterin_send_frame(&record, &settings, oxterin_whole_bytes(2, 9), array, 131072, security, 128, NULL, 2, output, 2, &answer) ==
+          OXTERIN_BIT_COUNT);
     CHECK(oxterin_send_frame(&record, &settings, odd, array, 131072, security, 128, poll, 2, output, 2, &answer) == OXTERIN_BIT_COUNT);
     CHECK(oxterin_send_frame(&record, &settings, oxterin_whole_bytes(2, 9), array, 131072, security, 128, poll, 2, output, 1, &answer) ==
           OXTERIN_OUTPUT_LENGTH);
@@ -101,8 +103,8 @@ static void looks(void) {
     CHECK(part.length == 0);
     part = oxterin_look_at(NULL, 131072, security, sizeof security, OXTERIN_MAIN_ARRAY, 7, 5);
     CHECK(part.length == 0);
-    part = oxterin_look_at(array, sizeof array, security, sizeof security, (oxterin_memory)1, 0, UINT64_MAX);
-    CHECK(part.length == 128);
+    part = oxterin_look_at(array, sizeof array, security, sizeof security, OXTERIN_SECURITY_REGISTER, 0, UINT64_MAX);
+    CHECK(part.bytes == security && part.length == 128);
 }
 
 int main(void) {

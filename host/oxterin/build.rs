@@ -1,4 +1,4 @@
-//! Says where the proved library is, and how it was built.
+//! Says where the proved library is, and how it was built. `OXTERIN_LIBRARY` names another folder than the one that host/library fills.
 use std::path::PathBuf;
 use std::{env, fs};
 
@@ -13,7 +13,10 @@ fn main() {
     println!("cargo:rerun-if-changed={}", archive.display());
     println!("cargo:rerun-if-changed={}", built.display());
     let Ok(how) = fs::read_to_string(&built) else {
-        eprintln!("{} is missing: run host/library, which proves and compiles it", archive.display());
+        eprintln!(
+            "{} is missing: run host/library, which proves and compiles the library",
+            built.display()
+        );
         std::process::exit(1);
     };
     println!("cargo:rustc-env=OXTERIN_BUILT={}", how.trim());

@@ -6,10 +6,10 @@ use native.Mathlib.Omega.{arith}
 use borrow.Author.Tests.{eqb-true}
 use lib.Dec.{eqb}
 use Rattle.lent.specs.declared.refusal.Refusal.{Refusal}
-use Rattle.lent.specs.declared.refusal.Lengths.{Lengths}
 use Rattle.lent.specs.Refusal.{numberOf}
-use Rattle.lent.proofs.Numbers.{refusalAt, has-refusal}
+use Rattle.lent.proofs.Numbers.{refusalAt}
 use Rattle.part.specs.Frame.{Call, Lent, lengthsOf, numberFor, replied, frame}
+use Rattle.part.proofs.Answers.{numbered}
 use Rattle.packing.specs.Packing.{packed}
 use Rattle.packing.proofs.Records.{same-words, same-durations, is-record, same-record}
 use Rattle.oxterin.specs.Face.{Handed, isCall, callOf, told, unread, faced}
@@ -35,10 +35,6 @@ small Refusal.BitCount = λ e. omega arith
 small Refusal.OutputLength = λ e. omega arith
 small Refusal.Record = λ e. omega arith
 small Refusal.Duration = λ e. omega arith
-
-numbered : (c : Call) (lengths : Lengths) → numberOf (refusalAt (numberFor c lengths)) ≡ numberFor c lengths
-unfolding numberFor
-numbered c lengths = has-refusal (c .device) (c .settings) (c .signals .bits) lengths
 
 -- a frame by the number of its refusal
 number-is : (c : Call) (m : Lent) → frame c m .reply .refusal ≡ numberFor c (lengthsOf c m)
@@ -83,7 +79,7 @@ pub promises : Promises
 promises =
     record {
       as-the-part = read;
-      unread-exactly = λ h m. (λ e. ap (λ l. l .number) (passed-over h m e), exactly h m);
+      unread-exactly = λ h m. (passed-over h m, exactly h m);
       refused-changes-nothing = unchanged;
       handed-on = λ d. (is-record d, same-record d);
       same-words = same-words;

@@ -7,13 +7,13 @@ use mathlib.Core.Path.{_≡_}
 use Rattle.sheet.specs.declared.device.Device.{Device}
 use Rattle.part.specs.Frame.{Lent, frame}
 use Rattle.packing.specs.Packing.{packed, isRecord, deviceOf, isSettings, settingsOf}
-use Rattle.oxterin.specs.Face.{Handed, isCall, callOf, told, faced}
+use Rattle.oxterin.specs.Face.{Handed, isCall, callOf, left, told, faced}
 
 pub record Promises : Type 0 where
   -- words that stand for a call are answered with what the part's frame gives, and nothing else
   pub as-the-part : (h : Handed) (m : Lent) → isCall h ≡ true → faced h m ≡ told (frame (callOf h) m)
-  -- 255 is answered to words that stand for nothing, and to no others
-  pub unread-exactly : (h : Handed) (m : Lent) → (isCall h ≡ false → faced h m .number ≡ 255) × (faced h m .number ≡ 255 → isCall h ≡ false)
+  -- words that stand for nothing are answered with 255, and everything is as it was, the answer's words too; no others are
+  pub unread-exactly : (h : Handed) (m : Lent) → (isCall h ≡ false → faced h m ≡ left 255 (h .device) (h .answer) m) × (faced h m .number ≡ 255 → isCall h ≡ false)
   -- a call with a number other than 0 changes neither the record's words nor a lent byte
   pub refused-changes-nothing : (h : Handed) (m : Lent) → faced h m .number ≢ 0 → (faced h m .device ≡ h .device) × (faced h m .lent ≡ m)
   -- the record that comes back as words is the one that goes in with them

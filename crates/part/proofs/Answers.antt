@@ -54,7 +54,8 @@ one-answer c m a b n o p q =
       ap (λ (r : Result). r .lent) e,
     )
 
-numbered : (c : Call) (lengths : Lengths) → numberOf (refusalAt (numberFor c lengths)) ≡ numberFor c lengths
+-- the number of a call is that of a refusal
+pub numbered : (c : Call) (lengths : Lengths) → numberOf (refusalAt (numberFor c lengths)) ≡ numberFor c lengths
 unfolding numberFor
 numbered c lengths = has-refusal (c .device) (c .settings) (c .signals .bits) lengths
 

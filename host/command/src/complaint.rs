@@ -1,5 +1,6 @@
 //! What went wrong, in words for the one who typed the command.
 use std::fmt;
+use std::io::{self, Write};
 
 /// An error that names its place and, where there is one, the remedy.
 #[derive(Clone, Debug, PartialEq, Eq)]
@@ -14,4 +15,9 @@ impl fmt::Display for Complaint {
 /// A complaint of these words.
 pub fn complaint(words: impl Into<String>) -> Complaint {
     Complaint(words.into())
+}
+
+/// Says on standard error what went wrong. If nobody listens there, nothing more can be done.
+pub fn complain(what: impl fmt::Display) {
+    let _ = writeln!(io::stderr(), "oxterin: {what}");
 }

@@ -10,12 +10,12 @@ mod serprog;
 mod serve;
 mod session;
 
-use complaint::{complaint, Complaint};
+use complaint::{complain, complaint, Complaint};
 use std::io::{self, Write};
 use std::process::ExitCode;
 
 const HELP: &str = "\
-oxterin: a simulated AT25XE011 serial flash whose every function is proved
+oxterin: a simulated AT25XE011 serial flash, from a library whose every function is proved
 
 Usage: oxterin COMMAND [OPTIONS]
 
@@ -28,14 +28,28 @@ Usage: oxterin COMMAND [OPTIONS]
 ";
 
 fn main() -> ExitCode {
-    let words: Vec<String> = std::env::args().skip(1).collect();
-    match obey(&words) {
+    match words().and_then(|words| obey(&words)) {
         Ok(()) => ExitCode::SUCCESS,
         Err(error) => {
-            eprintln!("oxterin: {error}");
+            complain(error);
             ExitCode::from(2)
         }
     }
+}
+
+/// The words behind the command's name.
+fn words() -> Result<Vec<String>, Complaint> {
+    std::env::args_os()
+        .skip(1)
+        .map(|word| {
+            word.into_string().map_err(|word| {
+                complaint(format!(
+                    "{}: this word is not text in UTF-8; rename the file",
+                    word.to_string_lossy()
+                ))
+            })
+        })
+        .collect()
 }
 
 /// Does what the words ask for.

@@ -80,8 +80,11 @@ pub const PART_HELP: &str = "  --size BYTES        131072 (default) or 65536; wi
   --otp-used          the first record has its one-time-programmable bytes used up
 ";
 
-/// A number in decimal, with or without commas or underscores.
+/// A number in decimal, with or without commas or underscores between its digits.
 pub fn number(text: &str) -> Option<u64> {
+    if !text.starts_with(|c: char| c.is_ascii_digit()) {
+        return None;
+    }
     let digits: String = text.chars().filter(|c| !matches!(c, ',' | '_')).collect();
     digits.parse().ok()
 }
@@ -130,11 +133,18 @@ fn set(settings: Settings, text: &str) -> Result<Settings, Complaint> {
     Ok(Settings::of_words(&words))
 }
 
+/// Whether a level is high.
+pub fn level_of(name: &str) -> Option<bool> {
+    match name {
+        "low" => Some(false),
+        "high" => Some(true),
+        _ => None,
+    }
+}
+
 /// `--wp low|high`: whether WP is high, which it is unless said.
 pub fn wp_high(given: &Given) -> Result<bool, Complaint> {
-    match given.value("--wp") {
-        None | Some("high") => Ok(true),
-        Some("low") => Ok(false),
-        Some(other) => Err(complaint(format!("--wp {other}: the level is low or high"))),
-    }
+    given.value("--wp").map_or(Ok(true), |name| {
+        level_of(name).ok_or_else(|| complaint(format!("--wp {name}: the level is low or high")))
+    })
 }

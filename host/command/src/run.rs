@@ -1,7 +1,7 @@
 //! `oxterin run`: frames from text, answered line by line.
-use crate::complaint::{complaint, Complaint};
+use crate::complaint::{complain, complaint, Complaint};
 use crate::lines::answered;
-use crate::options::{number, part, wp_high, Given, PART_FLAGS, PART_HELP, PART_VALUED};
+use crate::options::{level_of, number, part, wp_high, Given, PART_FLAGS, PART_HELP, PART_VALUED};
 use crate::{image, say};
 use oxterin::{Answer, Part, Signals};
 use std::fs::File;
@@ -15,13 +15,14 @@ oxterin run: sends frames to a part and answers each with a line
 
 Usage: oxterin run [FILE] [OPTIONS]
 
-Reads FILE, or standard input if there is none or it is -. A line is a frame; what is behind # is a comment.
+Reads FILE, or standard input if there is none or it is -. A line is a frame; what is behind # is a comment. A bad line
+or a refused frame ends the run with an error that names the line, and then nothing is saved.
 
   02 00 10 FE 11 22      the bytes of the frame, as pairs of hexadecimal digits
   05 00 /11              so many bits of it are clocked, here 11 of 16; without it all of them
   05 00 +2000            so many ticks elapse before it; without it none
   01 84 wp=low           WP's level during it; without it that of --wp
-  /0                     a frame of no bits at all
+  /0                     a frame of no bits at all; so is +2000 or wp=low with nothing beside it
 
 Each is answered by the bytes sent, what the output read, and status byte 1 after the call:
 
@@ -29,7 +30,7 @@ Each is answered by the bytes sent, what the output read, and status byte 1 afte
 
 Options:
 {PART_HELP}  --wp low|high       WP's level where a line does not say (default high)
-  --save FILE         afterwards the array's content goes to FILE, whole; after an error nothing is saved
+  --save FILE         afterwards the array's content goes to FILE, whole
   --explain           each line also says the outcome, the driven positions and the busy ticks left
 "
     )
@@ -42,10 +43,20 @@ struct Frame {
     signals: Signals,
 }
 
-/// A word of a line and the column where it begins, the first being 1.
+/// What is wrong with a line: the column, the first being 1, and what to do about it.
+type Fault = (usize, String);
+
+/// A word of a line and the column where it begins.
 struct Word<'a> {
     text: &'a str,
     column: usize,
+}
+
+impl Word<'_> {
+    /// A fault of this word.
+    fn fault(&self, remedy: &str) -> Fault {
+        (self.column, format!("{}: {remedy}", self.text))
+    }
 }
 
 /// Answers frames line by line.
@@ -56,17 +67,16 @@ pub fn run(words: &[String]) -> Result<(), Complaint> {
     let mut part = part(&given)?;
     let wp_high = wp_high(&given)?;
     let (name, source) = source(&given.words)?;
-    for (index, line) in source.lines().enumerate() {
+    given.value("--save").map_or(Ok(()), image::check)?;
+    for (index, line) in source.split(b'\n').enumerate() {
         let place = format!("{name}, line {}", index + 1);
         let line = line.map_err(|error| complaint(format!("{place}: {error}")))?;
-        if let Some(frame) = read(&line, wp_high).map_err(|(column, words)| complaint(format!("{place}, column {column}: {words}")))? {
+        let frame = read(&line, wp_high).map_err(|(column, words)| complaint(format!("{place}, column {column}: {words}")))?;
+        if let Some(frame) = frame {
             say(&answer(&mut part, &frame, given.has("--explain")).map_err(|words| complaint(format!("{place}: {words}")))?)?;
         }
     }
-    match given.value("--save") {
-        Some(path) => image::save(path, part.array()),
-        None => Ok(()),
-    }
+    given.value("--save").map_or(Ok(()), |path| image::save(path, part.array()))
 }
 
 /// Where the lines come from, and what to call that.
@@ -74,7 +84,7 @@ fn source(words: &[String]) -> Result<(String, Box<dyn BufRead>), Complaint> {
     match words {
         [] => {
             if io::stdin().is_terminal() {
-                eprintln!("oxterin: frames are read from here, one a line, up to the end of input; --help says how a line looks");
+                complain("frames are read from here, one a line, up to the end of input; --help says how a line looks");
             }
             Ok(("standard input".into(), Box::new(io::stdin().lock())))
         }
@@ -87,18 +97,31 @@ fn source(words: &[String]) -> Result<(String, Box<dyn BufRead>), Complaint> {
     }
 }
 
-/// The words of a line, comment left out.
-fn words_of(line: &str) -> Vec<Word<'_>> {
-    let line = line.split('#').next().unwrap_or_default();
+/// The text of a line: its end, comment and byte order mark left out.
+fn text_of(line: &[u8]) -> Result<&str, Fault> {
+    let line = line.strip_suffix(b"\r").unwrap_or(line);
+    let line = line.strip_prefix("\u{feff}".as_bytes()).unwrap_or(line);
+    let line = line.split(|byte| *byte == b'#').next().unwrap_or_default();
+    let column = |end: usize| String::from_utf8_lossy(&line[..end]).chars().count() + 1;
+    let text =
+        std::str::from_utf8(line).map_err(|error| (column(error.valid_up_to()), "no text in UTF-8; save the file as such".into()))?;
+    match text.find('\r') {
+        Some(at) => Err((column(at), "a carriage return inside a line; end each line with LF or CR LF".into())),
+        None => Ok(text),
+    }
+}
+
+/// The words of a text.
+fn words_of(text: &str) -> Vec<Word<'_>> {
     let mut words = Vec::new();
     let mut from = None;
-    for (at, c) in line.char_indices().chain([(line.len(), ' ')]) {
+    for (at, c) in text.char_indices().chain([(text.len(), ' ')]) {
         match (from, c.is_whitespace()) {
             (None, false) => from = Some(at),
             (Some(start), true) => {
-                let column = line[..start].chars().count() + 1;
+                let column = text[..start].chars().count() + 1;
                 words.push(Word {
-                    text: &line[start..at],
+                    text: &text[start..at],
                     column,
                 });
                 from = None;
@@ -109,43 +132,46 @@ fn words_of(line: &str) -> Vec<Word<'_>> {
     words
 }
 
-/// The frame of a line, or none if the line is empty; or the column of what is wrong, and the remedy.
-fn read(line: &str, wp_high: bool) -> Result<Option<Frame>, (usize, String)> {
-    let words = words_of(line);
-    if words.is_empty() {
-        return Ok(None);
-    }
+/// The frame of a line, or none if the line has no words.
+fn read(line: &[u8], wp_high: bool) -> Result<Option<Frame>, Fault> {
+    let words = words_of(text_of(line)?);
     let mut input = Vec::new();
-    let mut bits = None;
-    let mut elapsed = 0;
-    let mut level = wp_high;
-    for word in words {
-        let wrong = |remedy: &str| (word.column, format!("{}: {remedy}", word.text));
+    let (mut bits, mut elapsed, mut level) = (None, None, None);
+    for word in &words {
         if let Some(count) = word.text.strip_prefix('/') {
-            bits = Some(number(count).ok_or_else(|| wrong("behind / stands the number of bits clocked, such as /11"))?);
+            let count = number(count).ok_or_else(|| word.fault("behind / stands the number of bits clocked, such as /11"))?;
+            set_once(&mut bits, count, word)?;
         } else if let Some(ticks) = word.text.strip_prefix('+') {
-            elapsed = number(ticks).ok_or_else(|| wrong("behind + stands the number of ticks elapsed, up to 2^64 - 1, such as +2000"))?;
-        } else if let Some(level_text) = word.text.strip_prefix("wp=") {
-            level = match level_text {
-                "low" => false,
-                "high" => true,
-                _ => return Err(wrong("write wp=low or wp=high")),
-            };
+            let remedy = "behind + stands the number of ticks elapsed, up to 2^64 - 1, such as +2000";
+            set_once(&mut elapsed, number(ticks).ok_or_else(|| word.fault(remedy))?, word)?;
+        } else if let Some(name) = word.text.strip_prefix("wp=") {
+            set_once(
+                &mut level,
+                level_of(name).ok_or_else(|| word.fault("write wp=low or wp=high"))?,
+                word,
+            )?;
         } else {
-            input.extend(bytes(&word)?);
+            input.extend(bytes(word)?);
         }
     }
-    let bits = bits.unwrap_or(8 * input.len() as u64);
     let signals = Signals {
-        bits,
-        wp_high: level,
-        elapsed,
+        bits: bits.unwrap_or(8 * input.len() as u64),
+        wp_high: level.unwrap_or(wp_high),
+        elapsed: elapsed.unwrap_or(0),
     };
-    Ok(Some(Frame { input, signals }))
+    Ok((!words.is_empty()).then_some(Frame { input, signals }))
+}
+
+/// Sets what a line may say once.
+fn set_once<T>(place: &mut Option<T>, value: T, word: &Word<'_>) -> Result<(), Fault> {
+    match place.replace(value) {
+        None => Ok(()),
+        Some(_) => Err(word.fault("said twice; leave one out")),
+    }
 }
 
 /// The bytes of a word of hexadecimal digits, two to a byte.
-fn bytes(word: &Word<'_>) -> Result<Vec<u8>, (usize, String)> {
+fn bytes(word: &Word<'_>) -> Result<Vec<u8>, Fault> {
     if let Some(at) = word.text.chars().position(|c| !c.is_ascii_hexdigit()) {
         return Err((
             word.column + at,
@@ -215,25 +241,28 @@ mod tests {
 
     #[test]
     fn a_line_is_a_frame() {
-        assert_eq!(read("06", true), Ok(frame(&[6], 8, true, 0)));
-        assert_eq!(read(" 0500 +2,000 # poll", true), Ok(frame(&[5, 0], 16, true, 2_000)));
-        assert_eq!(read("05 00 /11 wp=low", true), Ok(frame(&[5, 0], 11, false, 0)));
-        assert_eq!(read("/0", false), Ok(frame(&[], 0, false, 0)));
+        assert_eq!(read(b"06", true), Ok(frame(&[6], 8, true, 0)));
+        assert_eq!(read(b" 0500 +2,000 # poll", true), Ok(frame(&[5, 0], 16, true, 2_000)));
+        assert_eq!(read(b"05 00 /11 wp=low", true), Ok(frame(&[5, 0], 11, false, 0)));
+        assert_eq!(read(b"/0", false), Ok(frame(&[], 0, false, 0)));
         assert_eq!(
-            read("ab /18446744073709551615 +18446744073709551615", true),
+            read(b"ab /18446744073709551615 +18446744073709551615", true),
             Ok(frame(&[0xAB], u64::MAX, true, u64::MAX))
         );
     }
 
     #[test]
     fn nothing_and_comments_are_no_frame() {
-        assert_eq!(read("", true), Ok(None));
-        assert_eq!(read("  \t# 06", true), Ok(None));
+        assert_eq!(read(b"", true), Ok(None));
+        assert_eq!(read(b"  \t# 06", true), Ok(None));
+        assert_eq!(read(b"\r", true), Ok(None));
+        assert_eq!(read(b"# pr\xFCfen", true), Ok(None));
+        assert_eq!(read("\u{feff}06\r".as_bytes(), true), Ok(frame(&[6], 8, true, 0)));
     }
 
     #[test]
     fn a_fault_names_its_column() {
-        let column = |line: &str| read(line, true).unwrap_err().0;
+        let column = |line: &str| read(line.as_bytes(), true).unwrap_err().0;
         assert_eq!(column("06 0x05"), 5);
         assert_eq!(column("06 123"), 4);
         assert_eq!(column("06 /x"), 4);
@@ -242,5 +271,10 @@ mod tests {
         assert_eq!(column("06 wp=up"), 4);
         assert_eq!(column("é6"), 1);
         assert_eq!(column("06 é"), 4);
+        assert_eq!(column("06 ++5"), 4);
+        assert_eq!(column("06 /8 /8"), 7);
+        assert_eq!(column("06 +1 wp=low +2"), 14);
+        assert_eq!(column("06\r05"), 3);
+        assert_eq!(read(b"06 \xFF", true).unwrap_err().0, 4);
     }
 }

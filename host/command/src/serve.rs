@@ -1,5 +1,5 @@
 //! `oxterin serve`: the part behind a port that speaks the serial flasher protocol.
-use crate::complaint::{complaint, Complaint};
+use crate::complaint::{complain, complaint, Complaint};
 use crate::image;
 use crate::lines::answered;
 use crate::options::{self, Given, PART_FLAGS, PART_HELP, PART_VALUED};
@@ -36,10 +36,10 @@ Time passes by the clients' delays alone (0Eh, carried out by 0Fh): their micros
 elapse before the next frame, and nobody sleeps. A client that waits for the end of an operation has to
 send delays between its status reads, as flashrom does.
 
-OUT is written whole, beside the old one, which it then replaces: first before the port is announced, so
-that a place which cannot be written is found out at once, then each time a client has left. A server that
-is ended while a client is there saves nothing more. The array alone is saved: the security register and
-the status bits last as long as the server.
+OUT is written whole, beside the old one, which it then replaces, each time a client has left; before the
+port is announced the server makes sure that it can be written. A server that is ended while a client is
+there saves nothing more. The array alone is saved: the security register and the status bits last as
+long as the server.
 
 A line of FILE has the bytes sent, what the output read, status byte 1 afterwards, the outcome, the first
 driven position and the number of driven positions, then the ticks elapsed before, if any. Of a frame over
@@ -63,14 +63,16 @@ pub fn serve(words: &[String]) -> Result<(), Complaint> {
     let mut programmer = Programmer::new(options::part(&given)?, options::wp_high(&given)?);
     let listener = listen(port(&given)?)?;
     let mut log = given.value("--log").map(Log::open).transpose()?;
-    save(&given, &programmer)?;
+    given.value("--save").map_or(Ok(()), image::check)?;
     announce(&listener)?;
     loop {
         let client = next(&listener)?;
-        if let Err(error) = attend(&mut programmer, &client, &mut log) {
+        let served = attend(&mut programmer, &client, &mut log);
+        let saved = save(&given, &programmer);
+        if let Err(error) = served {
             warn(&parting(&error));
         }
-        match save(&given, &programmer) {
+        match saved {
             saved if given.has("--once") => return saved,
             Err(wrong) => warn(&wrong),
             Ok(()) => {}
@@ -116,11 +118,14 @@ fn announce(listener: &TcpListener) -> Result<(), Complaint> {
         .map_err(|error| complaint(format!("standard output: {error}")))
 }
 
-/// Waits for the next client.
+/// Waits for the next client. One that went away before it was let in is no client.
 fn next(listener: &TcpListener) -> Result<TcpStream, Complaint> {
-    match listener.accept() {
-        Ok((client, _)) => Ok(client),
-        Err(error) => Err(complaint(format!("waiting for a client: {error}"))),
+    loop {
+        match listener.accept() {
+            Ok((client, _)) => return Ok(client),
+            Err(error) if error.kind() == io::ErrorKind::ConnectionAborted => {}
+            Err(error) => return Err(complaint(format!("waiting for a client: {error}"))),
+        }
     }
 }
 
@@ -156,7 +161,7 @@ fn save(given: &Given, programmer: &Programmer) -> Result<(), Complaint> {
 
 /// Says on standard error what went wrong; the server lives.
 fn warn(wrong: &Complaint) {
-    eprintln!("oxterin: {wrong}");
+    complain(wrong);
 }
 
 /// A file with a line for each frame.

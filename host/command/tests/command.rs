@@ -84,6 +84,33 @@ fn images_are_loaded_and_saved_whole() {
     assert_eq!(fs::read(&before).expect("there"), image);
 }
 
+#[cfg(unix)]
+#[test]
+fn a_saved_image_goes_behind_a_link_and_keeps_permissions() {
+    use std::os::unix::fs::{symlink, PermissionsExt};
+    let (file, link) = (scratch("private.bin"), scratch("link.bin"));
+    fs::write(&file, "old").expect("written");
+    fs::set_permissions(&file, fs::Permissions::from_mode(0o600)).expect("set");
+    symlink(&file, &link).expect("linked");
+    assert!(oxterin(&["run", "--size", "65536", "--save", text(&link)], "06\n").status.success());
+    assert_eq!(fs::read(&file).expect("saved"), vec![0xFF; 65_536]);
+    assert_eq!(fs::metadata(&file).expect("there").permissions().mode() & 0o777, 0o600);
+    assert!(fs::symlink_metadata(&link).expect("there").is_symlink());
+}
+
+#[cfg(unix)]
+#[test]
+fn words_that_are_no_text_are_complained_of() {
+    use std::os::unix::ffi::OsStrExt;
+    let word = std::ffi::OsStr::from_bytes(b"\xFF");
+    let output = Command::new(env!("CARGO_BIN_EXE_oxterin"))
+        .arg("run")
+        .arg(word)
+        .output()
+        .expect("it ends");
+    assert!(complained(&output).contains("UTF-8"), "{}", complained(&output));
+}
+
 #[test]
 fn a_bad_line_names_its_place_and_saves_nothing() {
     let after = scratch("unsaved.bin");
@@ -118,6 +145,8 @@ fn wrong_words_are_complained_of_with_a_remedy() {
         (&["run", "--wp", "up"], "low or high"),
         (&["run", "a", "b"], "one file"),
         (&["run", "no such file"], "no such file"),
+        (&["run", "--save", "no such folder/x"], "a folder that can be written"),
+        (&["run", "--save", "/dev/null"], "not a plain file"),
         (&["run", "--image", "no such image"], "no such image"),
     ] {
         let output = oxterin(words, "");

@@ -406,13 +406,14 @@ fn protection_follows_the_first_record_and_the_level_of_wp() {
 }
 
 #[test]
-fn the_image_is_saved_whole_at_the_start_and_when_a_client_has_left() {
+fn the_image_is_saved_whole_when_a_client_has_left() {
     let folder = folder("saved");
     let image = folder.join("image");
     fs::write(&image, vec![0xF0; 65_536]).expect("an image");
     let out = folder.join("out");
+    fs::write(&out, "an older one").expect("an older image");
     let server = Server::start(&["--image", word(&image), "--save", word(&out)]);
-    assert_eq!(fs::read(&out).expect("saved at the start"), vec![0xF0; 65_536]);
+    assert_eq!(fs::read(&out).expect("the older image"), b"an older one");
     let mut client = server.client();
     client.frame(&[0x06], &[]);
     client.frame(&[0x02, 0x00, 0x12, 0x34, 0x3C], &[]);
@@ -499,7 +500,7 @@ fn wrong_options_are_named_with_their_remedy() {
         (&["here"], "here", "--help"),
         (&["--wp", "up"], "--wp up", "low or high"),
         (&["--image", word(&short)], word(&short), "65,536 or 131,072"),
-        (&["--port", "0", "--save", word(&nowhere)], word(&nowhere), "as it was"),
+        (&["--port", "0", "--save", word(&nowhere)], word(&nowhere), "can be written"),
         (&["--port", "0", "--log", word(&nowhere)], word(&nowhere), "name a file"),
     ] {
         let (code, complaint) = refusal(words);

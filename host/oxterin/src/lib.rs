@@ -1,4 +1,4 @@
-//! A simulated AT25XE011 whose every function is proved to answer as the data sheet's rules say.
+//! A simulated AT25XE011, over a library whose every function is proved to answer as the data sheet's rules say.
 //!
 //! [`Part`] owns its memories; [`frame`] works on memories that you lend; [`raw`] is the face that C programs see, words and bytes.
 //! Time passes only as the caller says, in ticks that come with each frame.

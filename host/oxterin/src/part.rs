@@ -81,7 +81,7 @@ pub struct Part {
 }
 
 impl Part {
-    /// A part as delivered: every byte FFh, nothing protected, typical durations.
+    /// A blank part: every byte FFh, the register's too, nothing protected, typical durations.
     #[must_use]
     pub fn blank(size: Size) -> Part {
         Part::holding(vec![0xFF; size.bytes()])

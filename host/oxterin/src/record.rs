@@ -14,7 +14,8 @@ pub enum Mode {
 
 /// The device record: all that the part remembers beside its memories.
 ///
-/// It is plain data. Every value may be handed to a frame; one that no part could be in is refused ([`crate::Refusal::Record`]).
+/// It is plain data. Every value may be handed to a frame; more than 60,000,000 busy ticks, or any while asleep, are refused
+/// ([`crate::Refusal::Record`]).
 #[derive(Clone, Copy, Debug, PartialEq, Eq, Hash)]
 pub struct Record {
     /// BPL, the lock of the protection bit.
