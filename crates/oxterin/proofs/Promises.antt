@@ -3,13 +3,11 @@ use mathlib.Core.Bool.{Bool, true, false}
 use mathlib.Core.Logic.{_≢_}
 use mathlib.Core.Path.{_≡_, refl, sym, ap, _∙_}
 use native.Mathlib.Omega.{arith}
-use borrow.Author.Tests.{eqb-true}
-use lib.Dec.{eqb}
 use Rattle.lent.specs.declared.refusal.Refusal.{Refusal}
 use Rattle.lent.specs.Refusal.{numberOf}
 use Rattle.lent.proofs.Numbers.{refusalAt}
 use Rattle.part.specs.Frame.{Call, Lent, lengthsOf, numberFor, replied, frame}
-use Rattle.part.proofs.Answers.{numbered}
+use Rattle.part.proofs.Answers.{refusal-is, not-accepted, numbered}
 use Rattle.packing.specs.Packing.{packed}
 use Rattle.packing.proofs.Records.{same-words, same-durations, is-record, same-record}
 use Rattle.oxterin.specs.Face.{Handed, isCall, callOf, told, unread, faced}
@@ -36,26 +34,16 @@ small Refusal.OutputLength = λ e. omega arith
 small Refusal.Record = λ e. omega arith
 small Refusal.Duration = λ e. omega arith
 
--- a frame by the number of its refusal
-number-is : (c : Call) (m : Lent) → frame c m .reply .refusal ≡ numberFor c (lengthsOf c m)
-unfolding frame replied
-number-is c m = by (eqb (numberFor c (lengthsOf c m)) 0) refl
-  where
-    by : (b : Bool) → eqb (numberFor c (lengthsOf c m)) 0 ≡ b → frame c m .reply .refusal ≡ numberFor c (lengthsOf c m)
-    by true e = rw e (sym (eqb-true _ _ e))
-    by false e = rw e
-
 not-255 : (c : Call) (m : Lent) → frame c m .reply .refusal ≢ 255
-not-255 c m e = small (refusalAt (numberFor c (lengthsOf c m))) (numbered c (lengthsOf c m) ∙ (sym (number-is c m) ∙ e))
+unfolding frame
+not-255 c m e =
+    let lengths = lengthsOf c m in
+    small (refusalAt (numberFor c lengths)) (numbered c lengths ∙ (sym (refusal-is c lengths) ∙ e))
 
 -- a frame that is refused leaves record and memories
 left-alone : (c : Call) (m : Lent) → frame c m .reply .refusal ≢ 0 → (frame c m .reply .device ≡ c .device) × (frame c m .lent ≡ m)
 unfolding frame replied
-left-alone c m n = by (eqb (numberFor c (lengthsOf c m)) 0) refl
-  where
-    by : (b : Bool) → eqb (numberFor c (lengthsOf c m)) 0 ≡ b → (frame c m .reply .device ≡ c .device) × (frame c m .lent ≡ m)
-    by true e = absurd (n (number-is c m ∙ eqb-true _ _ e))
-    by false e = (rw e, rw e)
+left-alone c m n = let e = not-accepted c (lengthsOf c m) n in (rw e, rw e)
 
 exactly : (h : Handed) (m : Lent) → faced h m .number ≡ 255 → isCall h ≡ false
 exactly h m e = by (isCall h) refl

@@ -1,6 +1,5 @@
 // The face to C and Rust: plain numbers and slices, each function a thin call. Words that stand for nothing, such as a slice of another
 // length, a flag that is neither 0 nor 1, or a mode that does not exist, are answered with 255, and then nothing changes.
-
 use lent::look::look;
 use lent::look::look_start;
 use packing::UNREAD;

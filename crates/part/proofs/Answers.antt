@@ -2,7 +2,9 @@
 use Prim.Native.Nat.{ℕ}
 use Prim.Native.String.{String}
 use mathlib.Core.Bool.{Bool, true, false, cond}
+use mathlib.Core.Logic.{_≢_}
 use mathlib.Core.Path.{_≡_, refl, sym, ap, _∙_}
+use borrow.Author.Tests.{eqb-true, ne-eqb}
 use lib.Dec.{eqb}
 use lib.Text.{eqt}
 use Rattle.sheet.specs.declared.device.Device.{Device}
@@ -53,6 +55,19 @@ one-answer c m a b n o p q =
           (ap (λ (r : Result). r .reply .first) e) (ap (λ (r : Result). r .reply .driven) e) (ap (λ (r : Result). r .reply .device) e),
       ap (λ (r : Result). r .lent) e,
     )
+
+-- what comes back carries the number of the call
+pub refusal-is : (c : Call) (lengths : Lengths) → replied c lengths .refusal ≡ numberFor c lengths
+unfolding replied
+refusal-is c lengths = by (eqb (numberFor c lengths) 0) (eqb-true (numberFor c lengths) 0)
+  where
+    by : (b : Bool) → (b ≡ true → numberFor c lengths ≡ 0) → cond b (answered (judgedOf c)) (refused (numberFor c lengths) (c .device)) .refusal ≡ numberFor c lengths
+    by true z = sym (z refl)
+    by false z = refl
+
+-- a number that is not 0 is not that of an accepted call
+pub not-accepted : (c : Call) (lengths : Lengths) → replied c lengths .refusal ≢ 0 → eqb (numberFor c lengths) 0 ≡ false
+not-accepted c lengths n = ne-eqb (numberFor c lengths) 0 (λ e. n (refusal-is c lengths ∙ e))
 
 -- the number of a call is that of a refusal
 pub numbered : (c : Call) (lengths : Lengths) → numberOf (refusalAt (numberFor c lengths)) ≡ numberFor c lengths

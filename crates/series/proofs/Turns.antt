@@ -6,7 +6,7 @@ use mathlib.Core.List.{List, [], _∷_, _++_, append-assoc}
 use mathlib.Core.Logic.{_≢_}
 use mathlib.Core.Path.{_≡_, refl, sym, ap, _∙_}
 use native.Mathlib.Decide.{ℕ-discrete}
-use borrow.Author.Tests.{eqb-true, ne-eqb}
+use borrow.Author.Tests.{eqb-true}
 use lib.Dec.{ltb, eqb}
 use Rattle.opcodes.specs.declared.Command.{Command}
 use Rattle.opcodes.specs.declared.Command.the-variants.{Unlisted, Reads, Orders, Works}
@@ -22,6 +22,7 @@ use Rattle.sheet.proofs.Records.{passed-sound}
 use Rattle.lent.proofs.Lengths.{Accepted, accepted}
 use Rattle.part.specs.Operations.{Operation, onArray}
 use Rattle.part.specs.Words.{wordOf}
+use Rattle.part.proofs.Answers as answers
 use Rattle.part.specs.Frame.{Call, Reply, numberFor, timed, factsOf, judgedOf, answered, refused, replied}
 use Rattle.part.specs.Effect.{takesEffect, operationOf}
 use Rattle.series.specs.Turns.{Turn, callOf, lengthsOf, replyTo, effectOf, replies, operations, lastRecord}
@@ -75,15 +76,10 @@ module _ (t : Turn) (d : Device) where
 
   -- what comes back carries the number of the refusal
   pub refusal-is : replyTo t d .refusal ≡ number
-  unfolding replied
-  refusal-is = by (eqb number 0) (eqb-true number 0)
-    where
-      by : (b : Bool) → (b ≡ true → number ≡ 0) → cond b (answered (judgedOf (callOf t d))) (refused number d) .refusal ≡ number
-      by true z = sym (z refl)
-      by false z = refl
+  refusal-is = answers.refusal-is (callOf t d) (lengthsOf t)
 
   untrue : replyTo t d .refusal ≢ 0 → eqb number 0 ≡ false
-  untrue n = ne-eqb number 0 (λ e. n (refusal-is ∙ e))
+  untrue = answers.not-accepted (callOf t d) (lengthsOf t)
 
   -- a refused turn hands the record back as it came, and no operation takes effect
   pub refused-reply : replyTo t d .refusal ≢ 0 → replyTo t d ≡ refused (replyTo t d .refusal) d

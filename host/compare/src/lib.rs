@@ -25,5 +25,6 @@ pub use random::Random;
 pub use reply::Reply;
 pub use series::{replay, report, Mismatch};
 pub use shrink::shrink;
+pub use side::{model_word, model_words};
 pub use tally::Tally;
 pub use trial::{Care, Trial};

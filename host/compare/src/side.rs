@@ -182,12 +182,13 @@ pub(crate) fn by_model(call: &Call, record: &Record, lent: Lent<'_>) -> Reply {
         outcome: model_word(answer.outcome),
         first: answer.first as u64,
         driven: answer.driven as u64,
-        record: words_of(&proved_record(&answer.record)),
+        record: model_words(&answer.record),
     }
 }
 
 /// The word for one of the model's outcomes.
-fn model_word(outcome: model::Outcome) -> &'static str {
+#[must_use]
+pub fn model_word(outcome: model::Outcome) -> &'static str {
     match outcome {
         model::Outcome::Nothing => "nothing",
         model::Outcome::Read => "read",
@@ -214,21 +215,16 @@ fn model_record(record: &Record) -> model::Record {
     }
 }
 
-/// A record of the model as the proved part has it.
-fn proved_record(record: &model::Record) -> Record {
-    Record {
-        bpl: record.bpl,
-        bp0: record.bp0,
-        wel: record.wel,
-        rste: record.rste,
-        otp_used: record.otp_used,
-        mode: match record.mode {
-            model::Mode::Awake => oxterin::Mode::Awake,
-            model::Mode::Deep => oxterin::Mode::Deep,
-            model::Mode::UltraDeep => oxterin::Mode::UltraDeep,
-        },
-        busy: record.busy,
-    }
+/// The words of a record of the model.
+#[must_use]
+pub fn model_words(record: &model::Record) -> [u64; 7] {
+    let mode = match record.mode {
+        model::Mode::Awake => 0,
+        model::Mode::Deep => 1,
+        model::Mode::UltraDeep => 2,
+    };
+    let [bpl, bp0, wel, rste, otp_used] = [record.bpl, record.bp0, record.wel, record.rste, record.otp_used].map(u64::from);
+    [bpl, bp0, wel, rste, otp_used, mode, record.busy]
 }
 
 #[cfg(test)]

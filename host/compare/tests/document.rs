@@ -1,4 +1,5 @@
 //! Document 01's worked frames, limits, session and likely errors, its own values asserted on the proved part and on the model.
+use compare::{model_word, model_words};
 use oxterin::{Outcome, Part, Signals, Size};
 
 /// What a frame gave.
@@ -141,42 +142,13 @@ impl Model {
         self.record = answer.record;
         Seen {
             refusal: answer.refusal,
-            outcome: outcome_word(answer.outcome),
+            outcome: model_word(answer.outcome),
             first: answer.first,
             driven: answer.driven,
             output,
-            record: record_words(&answer.record),
+            record: model_words(&answer.record),
         }
     }
-}
-
-/// The word for one of the model's outcomes.
-fn outcome_word(outcome: model::Outcome) -> &'static str {
-    match outcome {
-        model::Outcome::Nothing => "nothing",
-        model::Outcome::Read => "read",
-        model::Outcome::Control => "control",
-        model::Outcome::Aborted => "aborted",
-        model::Outcome::Begun => "begun",
-    }
-}
-
-/// The words of the model's record.
-fn record_words(record: &model::Record) -> [u64; 7] {
-    let mode = match record.mode {
-        model::Mode::Awake => 0,
-        model::Mode::Deep => 1,
-        model::Mode::UltraDeep => 2,
-    };
-    [
-        record.bpl.into(),
-        record.bp0.into(),
-        record.wel.into(),
-        record.rste.into(),
-        record.otp_used.into(),
-        mode,
-        record.busy,
-    ]
 }
 
 /// Signals of so many bits, WP high, no time elapsed.
@@ -508,7 +480,7 @@ mod without_a_frame {
             let [bpl, bp0, otp_used] = [0, 1, 2].map(|place| flags >> place & 1 != 0);
             let words = Record::fresh(bpl, bp0, otp_used).words();
             assert_eq!(words, [bpl.into(), bp0.into(), 0, 0, otp_used.into(), 0, 0]);
-            assert_eq!(words, record_words(&model::Record::fresh(bpl, bp0, otp_used)));
+            assert_eq!(words, model_words(&model::Record::fresh(bpl, bp0, otp_used)));
         }
     }
 
