@@ -1,25 +1,18 @@
 -- What the right lengths give to those who work on the memories, and what is known of a call that is not refused. Assumes nothing.
-use Prim.Native.Nat.{ℕ, suc, _%_, _<_, _≤_}
-use mathlib.Core.Bool.{Bool, true, false, cond, _||_}
+use Prim.Native.Nat.{ℕ, suc, _≤_}
+use mathlib.Core.Bool.{Bool, true, false, cond}
 use mathlib.Core.Path.{_≡_, refl}
 use native.Mathlib.Omega.{arith}
 use borrow.Author.Tests.{ltb-false, eqb-true, not-false}
-use lib.Dec.{eqb}
 use Rattle.sheet.specs.declared.device.Device.{Device}
 use Rattle.settings.specs.declared.Settings.{Settings}
 use Rattle.sheet.specs.Device.{unsound}
 use Rattle.settings.specs.Settings.{anyUnfair}
 use Rattle.lent.specs.declared.refusal.Lengths.{Lengths}
-use Rattle.lent.specs.Refusal.{isArray, isRegister, bytesFor, refusalOf}
+use Rattle.sizes.specs.Sizes.{isArray}
+use Rattle.lent.specs.Refusal.{isRegister, bytesFor, refusalOf}
 
--- an array has bytes, and whole blocks of 32 KiB
-pub array-long : (n : ℕ) → isArray n ≡ true → (0 < n) × (n % 32768 ≡ 0)
-array-long n e = by (eqb n 131072) (eqb-true n 131072) e
-  where
-    by : (b : Bool) → (b ≡ true → n ≡ 131072) → (b || eqb n 65536) ≡ true → (0 < n) × (n % 32768 ≡ 0)
-    by true large e = let l : n ≡ 131072 = large refl in (omega arith, omega arith)
-    by false large e = let l : n ≡ 65536 = eqb-true n 65536 e in (omega arith, omega arith)
-
+-- a register's length
 pub register-long : (n : ℕ) → isRegister n ≡ true → n ≡ 128
 register-long n e = eqb-true n 128 e
 

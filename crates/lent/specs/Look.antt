@@ -4,7 +4,8 @@ use mathlib.Core.Bool.{cond}
 use mathlib.Core.List.{List, []}
 use lib.ListN.{length, take, drop}
 use Rattle.lent.specs.declared.look.Memory.{Memory}
-use Rattle.lent.specs.Refusal.{isArray, isRegister}
+use Rattle.sizes.specs.Sizes.{isArray}
+use Rattle.lent.specs.Refusal.{isRegister}
 
 -- where the part begins: address bits above the memory's size are ignored
 abbrev pub startOf : List ℕ → ℕ → ℕ

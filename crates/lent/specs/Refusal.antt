@@ -1,8 +1,9 @@
 -- The refusals: their numbers, and when each is given. They see lengths, the record and the settings, and never a byte that is lent.
 -- Assumes nothing.
 use Prim.Native.Nat.{ℕ, _+_, _/_}
-use mathlib.Core.Bool.{Bool, cond, not, _||_}
+use mathlib.Core.Bool.{Bool, cond, not}
 use lib.Dec.{ltb, eqb}
+use Rattle.sizes.specs.Sizes.{isArray}
 use Rattle.sheet.specs.declared.device.Device.{Device}
 use Rattle.settings.specs.declared.Settings.{Settings}
 use Rattle.sheet.specs.Device.{unsound}
@@ -20,10 +21,6 @@ numberOf Refusal.BitCount = 4
 numberOf Refusal.OutputLength = 5
 numberOf Refusal.Record = 6
 numberOf Refusal.Duration = 7
-
--- the array's length: the part's own, or the bench's small one
-abbrev pub isArray : ℕ → Bool
-isArray length = eqb length 131072 || eqb length 65536
 
 -- the security register's length
 abbrev pub isRegister : ℕ → Bool

@@ -1,6 +1,6 @@
 // A look at a lent memory without a frame.
-use crate::refusal::is_array;
 use crate::refusal::is_register;
+use sizes::is_array;
 ghost use mathlib.Core.Bool.{true, cond};
 ghost use mathlib.Core.List.{[]};
 ghost use mathlib.Core.Path.{_≡_};

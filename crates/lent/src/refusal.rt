@@ -1,8 +1,9 @@
 // The refusals, in the order of their numbers: what a caller can break is refused and not required.
 use settings::Settings;
 use sheet::device::Device;
+use sizes::is_array;
 ghost use mathlib.Core.Path.{_≡_};
-ghost use Rattle.lent.specs.Refusal.{numberOf, isArray, isRegister, bytesFor, refusalOf};
+ghost use Rattle.lent.specs.Refusal.{numberOf, isRegister, bytesFor, refusalOf};
 
 // Why a call is refused, or that it is not.
 pub enum Refusal {
@@ -44,13 +45,6 @@ pub struct Lengths {
 
 // The most bytes that a frame may have.
 const MOST: usize = 8192;
-
-// Whether an array of that length is the part's: its own, or the bench's small one.
-pub(crate) fn is_array(length: usize) -> bool
-    ensures { λ r. ⌜ r ≡ isArray length ⌝ }
-{
-    (length == 131072) | (length == 65536)
-}
 
 // Whether a security register of that length is the part's.
 pub(crate) fn is_register(length: usize) -> bool

@@ -10,15 +10,15 @@ use Rattle.cells.proofs.Runs.{range-behind}
 use Rattle.opcodes.specs.declared.Region.{Region}
 use Rattle.opcodes.specs.declared.Region.the-variants.{Page, Small, Large, Chip}
 use Rattle.sheet.specs.declared.judge.Action.{Action}
-use Rattle.lent.specs.Refusal.{isArray}
-use Rattle.lent.proofs.Lengths.{array-long}
+use Rattle.sizes.specs.Sizes.{isArray}
+use Rattle.sizes.proofs.Long.{array-long}
 use Rattle.part.specs.Operations.{addressOf, blockOf, widthOf, cellOf, onArray, onRegister}
 
 -- the whole array is one block, which begins at 0
 pub whole-block : (size place : ℕ) → place < size → blockOf size place ≡ 0
 whole-block size place l = let e : place / size ≡ 0 = div-eq-of-lt l in omega (arith, ap (λ (q : ℕ). q * size) e)
 
-pub block-inside : (region : Region) (size place : ℕ) → 0 < size → size % 32768 ≡ 0 → place < size
+pub block-inside : (region : Region) (size place : ℕ) → 0 < size → size % 65536 ≡ 0 → place < size
     → (0 < widthOf region size) × (blockOf (widthOf region size) place + widthOf region size ≤ size)
 block-inside Page size place p m l = (omega arith, omega arith)
 block-inside Small size place p m l = (omega arith, omega arith)

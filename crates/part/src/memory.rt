@@ -13,7 +13,7 @@ ghost use Rattle.part.specs.Operations.{cellOf, widthOf, onArray, onRegi
 
 // Programs the page that the address names.
 fn program(array: &mut [u8], input: &[u8])
-    requires { ⌜ (0 < length (now array)) × (length (now array) % 32768 ≡ 0) ⌝ }
+    requires { ⌜ (0 < length (now array)) × (length (now array) % 65536 ≡ 0) ⌝ }
     ensures { λ _. ⌜ now (array .exit) ≡ each (cellOf (onArray Action.Program (length (now (array .entry))) (now (input .entry)))) (now (array .entry)) ⌝ }
 {
     let place = address_of(input) % array.len();
@@ -42,7 +42,7 @@ fn width_of(region: Region, size: usize) -> usize
 
 // Erases the block of the region's width that the address names.
 fn erase(array: &mut [u8], region: Region, input: &[u8])
-    requires { ⌜ (0 < length (now array)) × (length (now array) % 32768 ≡ 0) ⌝ }
+    requires { ⌜ (0 < length (now array)) × (length (now array) % 65536 ≡ 0) ⌝ }
     ensures { λ _. ⌜ now (array .exit) ≡ each (cellOf (onArray (Action.Erase region) (length (now (array .entry))) (now (input .entry)))) (now (array .entry)) ⌝ }
 {
     let size = array.len();
@@ -54,7 +54,7 @@ fn erase(array: &mut [u8], region: Region, input: &[u8])
 
 // What is to be done with the memories is done.
 pub(crate) fn carry_out(action: Action, array: &mut [u8], register: &mut [u8], input: &[u8])
-    requires { ⌜ (0 < length (now array)) × (length (now array) % 32768 ≡ 0) × (length (now register) ≡ 128) ⌝ }
+    requires { ⌜ (0 < length (now array)) × (length (now array) % 65536 ≡ 0) × (length (now register) ≡ 128) ⌝ }
     ensures { λ _. ⌜ now (array .exit) ≡ each (cellOf (onArray action (length (now (array .entry))) (now (input .entry)))) (now (array .entry)) ⌝ }
     ensures { λ _. ⌜ now (register .exit) ≡ each (cellOf (onRegister action (now (input .entry)))) (now (register .entry)) ⌝ }
 {

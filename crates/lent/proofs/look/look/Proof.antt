@@ -3,7 +3,8 @@ use mathlib.Core.Path.{_≡_, sym, _∙_}
 use native.Mathlib.Omega.{arith}
 use borrow.Author.Needs.{needs}
 use lib.ListN.{length}
-use Rattle.lent.proofs.Lengths.{array-long, register-long}
+use Rattle.sizes.proofs.Long.{array-long}
+use Rattle.lent.proofs.Lengths.{register-long}
 use Rattle.lent.proofs.look.look.Statement.{statement}
 use Rattle.lent.proofs.look.look.Tie as tie
 

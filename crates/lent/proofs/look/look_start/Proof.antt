@@ -2,7 +2,8 @@
 use mathlib.Core.Path.{_≡_, sym, _∙_}
 use native.Mathlib.Omega.{arith}
 use borrow.Author.Needs.{needs}
-use Rattle.lent.proofs.Lengths.{array-long, register-long}
+use Rattle.sizes.proofs.Long.{array-long}
+use Rattle.lent.proofs.Lengths.{register-long}
 use Rattle.lent.proofs.look.look_start.Statement.{statement}
 use Rattle.lent.proofs.look.look_start.Tie as tie
 

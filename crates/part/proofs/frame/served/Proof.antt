@@ -6,7 +6,8 @@ use native.Mathlib.Omega.{arith}
 use borrow.Author.Needs.{needs}
 use lib.ListN.{length}
 use Rattle.sheet.proofs.Leaves.{within}
-use Rattle.lent.proofs.Lengths.{Accepted, accepted, array-long}
+use Rattle.sizes.proofs.Long.{array-long}
+use Rattle.lent.proofs.Lengths.{Accepted, accepted}
 use Rattle.part.specs.Frame.{Call, Lent, call, lent, lengthsOf, numberFor, factsFor, judgedOf}
 use Rattle.part.proofs.Frames.{together}
 use Rattle.part.proofs.frame.served.Statement.{statement}

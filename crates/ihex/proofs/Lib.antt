@@ -1,0 +1,7 @@
+pub mod Endings
+pub mod Records
+pub mod Texts
+pub mod RoundTrip
+pub mod Case
+pub mod Refused
+pub mod Promises

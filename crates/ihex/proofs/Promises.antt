@@ -1,0 +1,22 @@
+-- The promises, all of them. Assumes nothing.
+use Rattle.sizes.proofs.Long.{array-long}
+use Rattle.ihex_write.proofs.Lengths.{text-length}
+use Rattle.ihex.specs.Promises.{Promises}
+use Rattle.ihex.proofs.Endings.{endings}
+use Rattle.ihex.proofs.Texts.{behind}
+use Rattle.ihex.proofs.RoundTrip.{round-trip, handed-on}
+use Rattle.ihex.proofs.Case.{alike}
+use Rattle.ihex.proofs.Refused.{refused-output, refused-array}
+
+pub promises : Promises
+promises =
+    record {
+      round-trip = round-trip;
+      handed-on = handed-on;
+      text-length = λ array e. text-length array (array-long _ e .1);
+      behind = behind;
+      refused-output = refused-output;
+      refused-array = refused-array;
+      alike = alike;
+      endings = endings;
+    }

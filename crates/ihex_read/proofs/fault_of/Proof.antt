@@ -1,0 +1,126 @@
+use borrow.Author.Needs.{needs}
+use Rattle.ihex_read.proofs.fault_of.Statement.{statement}
+use Rattle.ihex_read.proofs.fault_of.Tie as tie
+use Rattle.ihex_read.proofs.fault_of.Reads as reads
+use Rattle.ihex_read.proofs.fault_of.Lts as lts
+use Rattle.ihex_read.proofs.byte_at.Reads as byte-at-reads
+use Rattle.ihex_read.proofs.record_at.Reads as record-at-reads
+use Prim.Native.Nat.{ℕ, _+_, _*_}
+use mathlib.Core.Bool.{true}
+use mathlib.Core.Path.{_≡_, refl, sym, _∙_}
+use native.Mathlib.Omega.{arith}
+use borrow.Author.Tests.{eq-eqb, ne-eqb, not-false}
+use denote.Ref.{now}
+use Rattle.ihex_write.specs.Layout.{addressOf}
+use Rattle.ihex_read.specs.Reader.{lineAt, isWhole, faultOf}
+use Rattle.ihex_read.proofs.Whole.{whole-room, whole-read}
+use Rattle.ihex_read.proofs.Faults.{faultBy, fault-by}
+
+-- a line that is looked at further is whole
+whole : (c : tie.Else1) → isWhole (lineAt (now (c .before .before .before .before .args .text)) (c .before .before .before .before .args .at)) ≡ true
+whole c = sym (c .before .before .record-at .ensures .0) ∙ not-false _ (c .if1 .left)
+
+-- the judgement, from what was read of the record
+judgement : (c : tie.After-byte-at2) (a : ℕ) → addressOf (lineAt (now (c .before .before .before .before .before .before .args .text)) (c .before .before .before .before .before .before .args .at)) ≡ a
+    → faultOf (c .before .before .before .before .before .before .args .size) (c .before .before .before .before .before .before .args .upper) (lineAt (now (c .before .before .before .before .before .before .args .text)) (c .before .before .before .before .before .before .args .at))
+    ≡ faultBy (c .before .before .before .before .before .before .args .size) (c .before .before .before .before .before .before .args .upper) (c .before .byte-at .result) (c .byte-at2 .result) (c .before .before .before .before .record-at .result .total) a
+judgement c a p =
+    let e = whole (c .before .before) in
+    fault-by _ _ _ _ _ _ _ e (sym (c .before .before .before .before .record-at .ensures .1 (not-false _ (c .before .before .if1 .left))))
+    (sym (whole-read (now (c .before .before .before .before .before .before .args .text)) (c .before .before .before .before .before .before .args .at) 0 _ e (omega arith) (c .before .byte-at .ensures .0))) (sym (whole-read (now (c .before .before .before .before .before .before .args .text)) (c .before .before .before .before .before .before .args .at) 3 _ e (omega arith) (c .byte-at2 .ensures .0))) p
+
+address : (c : tie.After-byte-at4) → addressOf (lineAt (now (c .before .before .before .before .before .before .before .before .before .before .before .before .args .text)) (c .before .before .before .before .before .before .before .before .before .before .before .before .args .at)) ≡ c .before .byte-at3 .result * 256 + c .byte-at4 .result
+address c =
+    let e = whole (c .before .before .before .before .before .before .before .before) in
+    rw (whole-read (now (c .before .before .before .before .before .before .before .before .before .before .before .before .args .text)) (c .before .before .before .before .before .before .before .before .before .before .before .before .args .at) 1 _ e (omega arith) (c .before .byte-at3 .ensures .0), whole-read (now (c .before .before .before .before .before .before .before .before .before .before .before .before .args .text)) (c .before .before .before .before .before .before .before .before .before .before .before .before .args .at) 2 _ e (omega arith) (c .byte-at4 .ensures .0))
+
+-- src/lib.rt:132:9
+record-at-requires : tie.Need-record-at-requires
+record-at-requires c κs = search needs
+
+-- src/lib.rt:134:9
+returns : tie.Need-returns
+unfolding faultOf
+returns c = rw (← c .before .before .record-at .ensures .0, c .if1 .taken)
+
+-- src/lib.rt:136:9
+byte-at-requires : tie.Need-byte-at-requires
+byte-at-requires c κs = whole-room (now (c .before .before .before .before .args .text)) (c .before .before .before .before .args .at) 0 (whole c) (omega arith)
+
+-- src/lib.rt:137:9
+byte-at-requires-2 : tie.Need-byte-at-requires-2
+byte-at-requires-2 c κs = whole-room (now (c .before .before .before .before .before .args .text)) (c .before .before .before .before .before .args .at) 3 (whole (c .before)) (omega arith)
+
+-- src/lib.rt:139:9
+returns-2 : tie.Need-returns-2
+returns-2 c = rw (judgement (c .before) _ refl, c .if2 .taken)
+
+-- src/lib.rt:142:9
+returns-3 : tie.Need-returns-3
+returns-3 c = rw (judgement (c .before .before .before) _ refl, c .before .before .if2 .left, ne-eqb _ _ (c .if3 .taken))
+
+-- src/lib.rt:145:9
+returns-4 : tie.Need-returns-4
+returns-4 c = rw (judgement (c .before .before .before .before) _ refl, c .before .before .before .if2 .left, eq-eqb _ _ (c .before .if3 .left), c .if4 .taken)
+
+-- src/lib.rt:147:19
+byte-at-requires-3 : tie.Need-byte-at-requires-3
+byte-at-requires-3 c κs = whole-room (now (c .before .before .before .before .before .before .before .before .before .before .args .text)) (c .before .before .before .before .before .before .before .before .before .before .args .at) 1 (whole (c .before .before .before .before .before .before)) (omega arith)
+
+-- src/lib.rt:147:19
+mul-address : tie.Need-mul-address
+mul-address c = search needs
+
+-- src/lib.rt:147:48
+byte-at-requires-4 : tie.Need-byte-at-requires-4
+byte-at-requires-4 c κs = whole-room (now (c .before .before .before .before .before .before .before .before .before .before .before .args .text)) (c .before .before .before .before .before .before .before .before .before .before .before .args .at) 2 (whole (c .before .before .before .before .before .before .before)) (omega arith)
+
+-- src/lib.rt:147:19
+add-address : tie.Need-add-address
+add-address c = search needs
+
+-- src/lib.rt:148:25
+add-past : tie.Need-add-past
+add-past c = search needs
+
+-- src/lib.rt:148:53
+mul-past : tie.Need-mul-past
+mul-past c = search needs
+
+-- src/lib.rt:148:53
+add-past-2 : tie.Need-add-past-2
+add-past-2 c = search needs
+
+-- src/lib.rt:148:53
+add-past-3 : tie.Need-add-past-3
+add-past-3 c = search needs
+
+-- src/lib.rt:150:9
+returns-5 : tie.Need-returns-5
+returns-5 c = rw (judgement (c .before .before .before .before .before .before .before) _ (address (c .before)), c .before .before .before .before .before .before .if2 .left, eq-eqb _ _ (c .before .before .before .before .if3 .left), c .before .before .before .if4 .left, c .if5 .taken)
+
+-- src/lib.rt:128:1
+returns-6 : tie.Need-returns-6
+returns-6 c = rw (judgement (c .before .before .before .before .before .before .before) _ (address (c .before)), c .before .before .before .before .before .before .if2 .left, eq-eqb _ _ (c .before .before .before .before .if3 .left), c .before .before .before .if4 .left, c .if5 .left)
+
+pub fault-of-spec : {M : Type 1} → statement M
+fault-of-spec =
+    tie.close
+    (tie.spec
+    record-at-requires
+    returns
+    byte-at-requires
+    byte-at-requires-2
+    returns-2
+    returns-3
+    returns-4
+    byte-at-requires-3
+    mul-address
+    byte-at-requires-4
+    add-address
+    add-past
+    mul-past
+    add-past-2
+    add-past-3
+    returns-5
+    returns-6)

@@ -1,0 +1,116 @@
+use Rattle.ihex_read.proofs.lay.Statement.{statement}
+use Rattle.ihex_read.proofs.lay.Tie as tie
+use Rattle.ihex_read.proofs.lay.Reads as reads
+use Rattle.ihex_read.proofs.lay.Lts as lts
+use Rattle.ihex_read.proofs.byte_at.Reads as byte-at-reads
+use Prim.Native.Nat.{_+_, _-_, _<_, _≤_}
+use mathlib.Core.Path.{_≡_, sym, _∙_}
+use native.Mathlib.Omega.{arith}
+use denote.Ref.{now}
+use lib.ListN.{length, drop}
+use Rattle.cells.proofs.Runs.{Reached, begins, goes-on, ends, same-long}
+use Rattle.ihex_write.specs.Layout.{lengthOf, dataAt, asked}
+use Rattle.ihex_read.specs.Reader.{lineAt}
+use Rattle.ihex_read.proofs.Whole.{whole-room, whole-small, whole-read}
+
+abbrev Inv-loop : tie.InvT-loop
+Inv-loop array₀ start text at end i₀ array i = Reached (λ k x. dataAt (lineAt text at) (k - start)) start end array₀ i array
+
+abbrev μ-loop : tie.MeasureT-loop
+μ-loop array₀ start text at end i₀ array i = end - i
+
+-- the length that was read is the record's
+long : (c : tie.After-byte-at Inv-loop μ-loop) → c .byte-at .result ≡ lengthOf (lineAt (now (c .before .before .before .args .text)) (c .before .before .before .args .at))
+long c = whole-read (now (c .before .before .before .args .text)) (c .before .before .before .args .at) 0 _ (c .before .before .before .pre .0) (omega arith) (c .byte-at .ensures .0)
+
+-- the next byte is one of its data
+inside : (c : tie.In-loop Inv-loop μ-loop) → (c .before .loop .i - c .before .before .before .before .before .args .start + 4) < asked (drop (c .before .before .before .before .before .args .at) (now (c .before .before .before .before .before .args .text)))
+inside c =
+    let n : c .before .before .byte-at .result ≡ lengthOf (drop (c .before .before .before .before .before .args .at) (now (c .before .before .before .before .before .args .text))) = c .before .before .byte-at .ensures .0 (whole-small (drop (c .before .before .before .before .before .args .at) (now (c .before .before .before .before .before .args .text))) (c .before .before .before .before .before .pre .0) 0 (omega arith)) in
+    let l : c .before .before .before .before .before .args .start ≤ c .before .loop .i = c .before .loop .inv .low in
+    omega arith
+
+-- and goes to the array
+fits : (c : tie.In-loop Inv-loop μ-loop) → c .before .loop .i < length (now (c .before .before .before .before .before .args .array))
+fits c =
+    let n : c .before .before .byte-at .result ≡ lengthOf (lineAt (now (c .before .before .before .before .before .args .text)) (c .before .before .before .before .before .args .at)) = long (c .before .before) in
+    let l : c .before .before .before .before .before .args .start ≤ c .before .loop .i = c .before .loop .inv .low in
+    let r : c .before .before .before .before .before .args .start + lengthOf (lineAt (now (c .before .before .before .before .before .args .text)) (c .before .before .before .before .before .args .at)) ≤ length (now (c .before .before .before .before .before .args .array)) = c .before .before .before .before .before .pre .2 (omega arith) in
+    omega arith
+
+small : (c : tie.After-byte-at2 Inv-loop μ-loop) → c .byte-at2 .result < 256
+small c =
+    let l = whole-small (drop (c .before .before .before .before .before .before .args .at) (now (c .before .before .before .before .before .before .args .text))) (c .before .before .before .before .before .before .pre .0) (c .before .before .loop .i - c .before .before .before .before .before .before .args .start + 4) (inside (c .before)) in
+    rw (c .byte-at2 .ensures .0 l) l
+
+-- src/lib.rt:214:23
+byte-at-requires : tie.Need-byte-at-requires Inv-loop μ-loop
+byte-at-requires c κs = whole-room (now (c .before .before .args .text)) (c .before .before .args .at) 0 (c .before .before .pre .0) (omega arith)
+
+-- src/lib.rt:214:15
+add-end : tie.Need-add-end Inv-loop μ-loop
+add-end c = omega (arith, c .byte-at .ensures .1)
+
+-- src/lib.rt:216:5
+loop-holds : tie.Need-loop-holds Inv-loop μ-loop
+loop-holds c = begins _ _ _ _ (omega arith)
+
+-- src/lib.rt:217:38
+sub-byte-at : tie.Need-sub-byte-at Inv-loop μ-loop
+sub-byte-at c = c .before .loop .inv .low
+
+-- src/lib.rt:217:38
+add-byte-at : tie.Need-add-byte-at Inv-loop μ-loop
+add-byte-at c = let l = c .before .loop .inv .low in omega arith
+
+-- src/lib.rt:217:20
+byte-at-requires-2 : tie.Need-byte-at-requires-2 Inv-loop μ-loop
+byte-at-requires-2 c κs = whole-room (now (c .before .before .before .before .before .args .text)) (c .before .before .before .before .before .args .at) (c .before .loop .i - c .before .before .before .before .before .args .start + 4) (c .before .before .before .before .before .pre .0) (inside c)
+
+-- src/lib.rt:217:20
+cast-array : tie.Need-cast-array Inv-loop μ-loop
+cast-array c = omega (arith, small c)
+
+-- src/lib.rt:217:9
+slice-write-array : tie.Need-slice-write-array Inv-loop μ-loop
+slice-write-array c = omega (arith, fits (c .before), same-long (c .before .before .loop .inv))
+
+-- src/lib.rt:218:9
+add-i : tie.Need-add-i Inv-loop μ-loop
+add-i c = omega (arith, fits (c .before))
+
+-- src/lib.rt:216:5
+loop-less : tie.Need-loop-less Inv-loop μ-loop
+loop-less c = omega arith
+
+-- src/lib.rt:216:5
+loop-again : tie.Need-loop-again Inv-loop μ-loop
+loop-again c = goes-on (c .before .before .loop .inv) _ (c .before .loop-test .taken) (fits (c .before)) (whole-read (now (c .before .before .before .before .before .before .args .text)) (c .before .before .before .before .before .before .args .at) (c .before .before .loop .i - c .before .before .before .before .before .before .args .start + 4) _ (c .before .before .before .before .before .before .pre .0) (inside (c .before)) (c .byte-at2 .ensures .0))
+
+-- src/lib.rt:208:1
+same-length : tie.Need-same-length Inv-loop μ-loop
+same-length c = same-long (c .before .loop .inv)
+
+-- src/lib.rt:208:1
+returns : tie.Need-returns Inv-loop μ-loop
+returns c = rw (long (c .before .before)) at (ends (c .before .loop .inv) (c .loop-test .left))
+
+pub lay-spec : {M : Type 1} → statement M
+lay-spec =
+    tie.close
+    (tie.spec
+    Inv-loop
+    μ-loop
+    byte-at-requires
+    add-end
+    loop-holds
+    sub-byte-at
+    add-byte-at
+    byte-at-requires-2
+    cast-array
+    slice-write-array
+    add-i
+    loop-less
+    loop-again
+    same-length
+    returns)
