@@ -12,8 +12,9 @@
  *         enable, sizeof enable, output, sizeof output, &answer);
  *
  * Nothing is kept between calls but what you hand in again: the record, the array and the security register. Calls on different parts
- * may run at the same time. Memories that are written (record, array, register, output, answer) must not overlap anything else that the
- * same call is handed. A null array, register, input or output counts as one of length 0; record, settings and answer are never null.
+ * may run at the same time. Memories that are written (record, array, register, output, text, answer, characters, place) must not overlap
+ * anything else that the same call is handed. A null array, register, input, output or text counts as one of length 0; record, settings,
+ * answer, characters and place are never null.
  *
  * C11 or C++17; needs nothing but this file and the library.
  */
@@ -29,13 +30,17 @@ extern "C" {
 #endif
 
 /* The version of this header; oxterin_version() is the library's. A million for the first number, a thousand for the second. */
-#define OXTERIN_VERSION 1000000
+#define OXTERIN_VERSION 1001000
 
 /* Lengths in bytes. */
 #define OXTERIN_ARRAY 131072u      /* the AT25XE011's own array */
 #define OXTERIN_SMALL_ARRAY 65536u /* also accepted */
 #define OXTERIN_REGISTER 128u      /* the security register */
 #define OXTERIN_MOST_BYTES 8192u   /* a frame has no more */
+
+/* Lengths in characters of an array's content as Intel HEX text, as it is written. A text that is read may have any length. */
+#define OXTERIN_HEX_TEXT 360492u       /* of OXTERIN_ARRAY */
+#define OXTERIN_SMALL_HEX_TEXT 180252u /* of OXTERIN_SMALL_ARRAY */
 
 /* Awake, or in one of the sleep modes. */
 typedef enum { OXTERIN_AWAKE = 0, OXTERIN_DEEP = 1, OXTERIN_ULTRA_DEEP = 2 } oxterin_mode;
@@ -70,17 +75,25 @@ typedef struct {
     uint64_t elapsed; /* ticks elapsed since the call before */
 } oxterin_signals;
 
-/* Why a call was refused. Record, memories and output are then as they were, and the elapsed ticks do not count. */
+/* Why a call was refused. Record, memories, output and text are then as they were, and the elapsed ticks do not count. A frame has the
+ * refusals 1 to 7; writing HEX has 17 and 18, reading it 12 to 16 and 18. */
 typedef enum {
     OXTERIN_ACCEPTED = 0,
-    OXTERIN_ARRAY_LENGTH = 1,    /* the array has neither 131,072 nor 65,536 bytes */
-    OXTERIN_REGISTER_LENGTH = 2, /* the security register has not 128 bytes */
-    OXTERIN_INPUT_LENGTH = 3,    /* more than 8,192 input bytes */
-    OXTERIN_BIT_COUNT = 4,       /* the bit count does not need exactly as many bytes */
-    OXTERIN_OUTPUT_LENGTH = 5,   /* the output buffer is shorter than the input */
-    OXTERIN_RECORD = 6,          /* more than 60,000,000 busy ticks left, or any in a part that is asleep */
-    OXTERIN_DURATION = 7,        /* a duration is 0 or over 60,000,000 */
-    OXTERIN_UNREAD = 255         /* a mode that does not exist */
+    OXTERIN_ARRAY_LENGTH = 1,      /* the array has neither 131,072 nor 65,536 bytes */
+    OXTERIN_REGISTER_LENGTH = 2,   /* the security register has not 128 bytes */
+    OXTERIN_INPUT_LENGTH = 3,      /* more than 8,192 input bytes */
+    OXTERIN_BIT_COUNT = 4,         /* the bit count does not need exactly as many bytes */
+    OXTERIN_OUTPUT_LENGTH = 5,     /* the output buffer is shorter than the input */
+    OXTERIN_RECORD = 6,            /* more than 60,000,000 busy ticks left, or any in a part that is asleep */
+    OXTERIN_DURATION = 7,          /* a duration is 0 or over 60,000,000 */
+    OXTERIN_HEX_MALFORMED = 12,    /* not a colon and the digit pairs its length asks for; 01 with data, 04 without two bytes */
+    OXTERIN_HEX_CHECKSUM = 13,     /* the checksum is wrong */
+    OXTERIN_HEX_KIND = 14,         /* another type than 00, 01 and 04 */
+    OXTERIN_HEX_OUTSIDE = 15,      /* data outside the array, or past its 64 KiB */
+    OXTERIN_HEX_END = 16,          /* no end record, or text after it */
+    OXTERIN_HEX_ROOM = 17,         /* the text buffer is too short */
+    OXTERIN_HEX_ARRAY_LENGTH = 18, /* the array of HEX has neither 131,072 nor 65,536 bytes */
+    OXTERIN_UNREAD = 255           /* a mode that does not exist */
 } oxterin_refusal;
 
 /* What became of an accepted frame. */
@@ -110,8 +123,9 @@ typedef struct {
 /* The library's own functions, on words. The functions further below are easier to use.
  *
  * A record is 7 words (BPL, BP0, WEL, RSTE, OTP used, mode, busy ticks), the settings are 8, the signals 3 (bits, WP, ticks), an answer
- * 3 (outcome, first, driven), a status 2 bytes, a place 2 (start, length). Another length, a flag that is neither 0 nor 1, or a mode or
- * memory that does not exist is answered with 255, and then nothing has changed. No pointer may be null. */
+ * 3 (outcome, first, driven), a status 2 bytes, the place of a look 2 (start, length), the characters and the place of HEX 1. Another
+ * length, a flag that is neither 0 nor 1, or a mode or memory that does not exist is answered with 255, and then nothing has changed. No
+ * pointer may be null. */
 uint64_t oxterin_version(void);
 uint64_t oxterin_fresh(uint64_t bpl, uint64_t bp0, uint64_t otp_used, uint64_t *record, size_t record_length);
 uint64_t oxterin_typical(uint64_t *settings, size_t settings_length);
@@ -122,6 +136,10 @@ uint64_t oxterin_frame(uint64_t *record, size_t record_length, const uint64_t *s
                        const uint64_t *signals, size_t signals_length, uint8_t *array, size_t array_length, uint8_t *security,
                        size_t security_length, const uint8_t *input, size_t input_length, uint8_t *output, size_t output_length,
                        uint64_t *answer, size_t answer_length);
+uint64_t oxterin_hex_write(const uint8_t *array, size_t array_length, uint8_t *text, size_t text_length, uint64_t *characters,
+                           size_t characters_length);
+uint64_t oxterin_hex_read(const uint8_t *text, size_t text_length, uint8_t *array, size_t array_length, uint64_t *place,
+                          size_t place_length);
 
 /* A record's words, and back. */
 static inline void oxterin_pack_record(const oxterin_record *record, uint64_t words[7]) {
@@ -237,6 +255,30 @@ static inline oxterin_refusal oxterin_send_frame(oxterin_record *record, const o
     return (oxterin_refusal)number;
 }
 
+/* The array's content as Intel HEX text, OXTERIN_HEX_TEXT or OXTERIN_SMALL_HEX_TEXT characters, with no NUL behind it: for each 64 KiB a
+ * record of type 04 and data records of 16 bytes, then the end record; upper case, an LF after each. The bytes of the buffer behind the
+ * text stay. `characters` becomes the number of characters written, 0 if refused. */
+static inline oxterin_refusal oxterin_write_hex(const uint8_t *array, size_t array_length, uint8_t *text, size_t text_length,
+                                                size_t *characters) {
+    uint64_t told[1] = {0};
+    uint64_t number = oxterin_hex_write(array ? array : oxterin_nowhere(), oxterin_length_of(array, array_length),
+                                        text ? text : oxterin_nowhere(), oxterin_length_of(text, text_length), told, 1);
+    *characters = (size_t)told[0];
+    return (oxterin_refusal)number;
+}
+
+/* Reads Intel HEX text into the array: records of types 00, 01 and 04 in either case, ended by LF or CR LF. Later records win, and bytes
+ * that none names stay. `place` becomes the place, counted from 0, of the character at which the faulty record begins, the text's length
+ * if the end record is missing; 0 if the text is accepted or the array's length is refused. */
+static inline oxterin_refusal oxterin_read_hex(const uint8_t *text, size_t text_length, uint8_t *array, size_t array_length,
+                                               size_t *place) {
+    uint64_t told[1] = {0};
+    uint64_t number = oxterin_hex_read(text ? text : oxterin_nowhere(), oxterin_length_of(text, text_length),
+                                       array ? array : oxterin_nowhere(), oxterin_length_of(array, array_length), told, 1);
+    *place = (size_t)told[0];
+    return (oxterin_refusal)number;
+}
+
 /* An outcome's word. */
 static inline const char *oxterin_outcome_word(oxterin_outcome outcome) {
     switch (outcome) {
@@ -273,6 +315,20 @@ static inline const char *oxterin_refusal_text(oxterin_refusal refusal) {
         return "the record has more than 60,000,000 busy ticks left, or any while asleep";
     case OXTERIN_DURATION:
         return "a duration is 0 or over 60,000,000 ticks";
+    case OXTERIN_HEX_MALFORMED:
+        return "a record is not a colon and the digit pairs its length asks for, or is 01 with data or 04 without two bytes";
+    case OXTERIN_HEX_CHECKSUM:
+        return "a record has a wrong checksum";
+    case OXTERIN_HEX_KIND:
+        return "a record has another type than 00, 01 and 04";
+    case OXTERIN_HEX_OUTSIDE:
+        return "a record has data outside the array or past its 64 KiB";
+    case OXTERIN_HEX_END:
+        return "the text has no end record, or goes on after it";
+    case OXTERIN_HEX_ROOM:
+        return "the text buffer is shorter than the text";
+    case OXTERIN_HEX_ARRAY_LENGTH:
+        return "the array has neither 131,072 nor 65,536 bytes";
     case OXTERIN_UNREAD:
         return "a mode that does not exist";
     }

@@ -20,6 +20,9 @@ static uint8_t output[16];
 static oxterin_record record;
 static oxterin_settings settings;
 static oxterin_answer answer;
+static uint8_t text[OXTERIN_HEX_TEXT + 1];
+static size_t characters;
+static size_t place;
 
 /* A frame of whole bytes on the memories above. */
 static oxterin_refusal send_bytes(const uint8_t *input, size_t length, uint64_t elapsed) {
@@ -107,11 +110,128 @@ static void looks(void) {
     CHECK(part.bytes == security && part.length == 128);
 }
 
+/* Whether all of so many bytes are this one. */
+static bool all(const uint8_t *bytes, size_t length, uint8_t byte) {
+    size_t k = 0;
+    while (k < length && bytes[k] == byte) {
+        k++;
+    }
+    return k == length;
+}
+
+/* Whether the text has these characters at a place. */
+static bool stands_at(size_t from, const char *wanted) { return memcmp(text + from, wanted, strlen(wanted)) == 0; }
+
+/* Reads these characters into the whole array. */
+static oxterin_refusal read_text(const char *given) {
+    return oxterin_read_hex((const uint8_t *)given, strlen(given), array, sizeof array, &place);
+}
+
+/* Whether reading these characters is refused so, at that place, with the array as it was. */
+static bool refused(const char *given, oxterin_refusal refusal, size_t at) {
+    memset(array, 0xAA, sizeof array);
+    place = 77;
+    return read_text(given) == refusal && place == at && all(array, sizeof array, 0xAA);
+}
+
+static void hex_written(void) {
+    size_t k;
+    for (k = 0; k < sizeof array; k++) {
+        array[k] = (uint8_t)(k ^ k >> 8 ^ k >> 16);
+    }
+    memset(text, 0xEE, sizeof text);
+    CHECK(oxterin_write_hex(array, sizeof array, text, sizeof text, &characters) == OXTERIN_ACCEPTED && characters == OXTERIN_HEX_TEXT);
+    CHECK(stands_at(0, ":020000040000FA\n:10000000000102030405060708090A0B0C0D0E0F78\n:10001000"));
+    CHECK(stands_at(180240, ":020000040001F9\n:10000000010003020504070609080B0A0D0C0F0E78\n:10001000"));
+    CHECK(stands_at(360492 - 12 - 44, ":10FFF0000E0F0C0D0A0B08090607040502030001") && stands_at(360492 - 12, ":00000001FF\n"));
+    CHECK(text[OXTERIN_HEX_TEXT] == 0xEE);
+    memset(array, 0x55, sizeof array);
+    CHECK(oxterin_read_hex(text, characters, array, sizeof array, &place) == OXTERIN_ACCEPTED && place == 0);
+    for (k = 0; k < sizeof array && array[k] == (uint8_t)(k ^ k >> 8 ^ k >> 16); k++) {
+    }
+    CHECK(k == sizeof array);
+
+    memset(text, 0xEE, sizeof text);
+    CHECK(oxterin_write_hex(array, 65536, text, 180252, &characters) == OXTERIN_ACCEPTED && characters == OXTERIN_SMALL_HEX_TEXT);
+    CHECK(stands_at(180252 - 12, ":00000001FF\n") && all(text + 180252, sizeof text - 180252, 0xEE));
+    memset(array, 0x55, sizeof array);
+    CHECK(oxterin_read_hex(text, characters, array, 65536, &place) == OXTERIN_ACCEPTED && place == 0);
+    CHECK(array[0] == 0x00 && array[0xFFFF] == 0x00 && array[0xFFFE] == 0x01 && all(array + 65536, 65536, 0x55));
+}
+
+static void hex_read(void) {
+    memset(array, 0xAA, sizeof array);
+    CHECK(read_text(":02000800cafe2e\r\n:02000004000fEB\n:00FFFF0002\n:020000040001F9\n:0100090042b4\n:00000001ff") == OXTERIN_ACCEPTED);
+    CHECK(array[7] == 0xAA && array[8] == 0xCA && array[9] == 0xFE && array[10] == 0xAA);
+    CHECK(array[0x10008] == 0xAA && array[0x10009] == 0x42 && array[0x1000A] == 0xAA && place == 0);
+    CHECK(read_text(":020008001122C3\n:0100090033C3\n:00000001FF\n") == OXTERIN_ACCEPTED && array[8] == 0x11 && array[9] == 0x33);
+}
+
+static void hex_refusals(void) {
+    const uint8_t upper[] = ":020000040001F9\n:0100000011EE\n:00000001FF\n";
+    CHECK(refused("\n:00000001FF\n", OXTERIN_HEX_MALFORMED, 0));
+    CHECK(refused(":0100000011EE\n:01000000G1EE\n:00000001FF\n", OXTERIN_HEX_MALFORMED, 14));
+    CHECK(refused(":0100000011EE\r\n:0100000111ED\n", OXTERIN_HEX_MALFORMED, 15));
+    CHECK(refused(":03000004000000F9\n:00000001FF\n", OXTERIN_HEX_MALFORMED, 0));
+    CHECK(refused(":03000004000000F8\n:00000001FF\n", OXTERIN_HEX_MALFORMED, 0));
+    CHECK(refused(":00000001FF\r", OXTERIN_HEX_MALFORMED, 0));
+    CHECK(refused(":0100000011EE\n:0100000011EF\n:00000001FF\n", OXTERIN_HEX_CHECKSUM, 14));
+    CHECK(refused(":0100000011EE\n:020000021000EC\n:00000001FF\n", OXTERIN_HEX_KIND, 14));
+    CHECK(refused(":0400000500000100F6\n:00000001FF\n", OXTERIN_HEX_KIND, 0));
+    CHECK(refused(":0400000500000100F7\n:00000001FF\n", OXTERIN_HEX_CHECKSUM, 0));
+    CHECK(refused(":0100000011EE\n:02FFFF001122CD\n:00000001FF\n", OXTERIN_HEX_OUTSIDE, 14));
+    CHECK(refused(":020000040002F8\n:0100000011EE\n:00000001FF\n", OXTERIN_HEX_OUTSIDE, 16));
+    CHECK(oxterin_read_hex(upper, sizeof upper - 1, array, 65536, &place) == OXTERIN_HEX_OUTSIDE && place == 16);
+    CHECK(all(array, sizeof array, 0xAA));
+    CHECK(refused("", OXTERIN_HEX_END, 0));
+    CHECK(refused(":0100000011EE\n", OXTERIN_HEX_END, 14));
+    CHECK(refused(":00000001FF\n\n", OXTERIN_HEX_END, 12));
+    CHECK(oxterin_read_hex(NULL, 14, array, sizeof array, &place) == OXTERIN_HEX_END && place == 0);
+    place = 77;
+    CHECK(oxterin_read_hex((const uint8_t *)"?", 1, array, 65537, &place) == OXTERIN_HEX_ARRAY_LENGTH && place == 0);
+    CHECK(oxterin_read_hex((const uint8_t *)":00000001FF", 11, NULL, 65536, &place) == OXTERIN_HEX_ARRAY_LENGTH && place == 0);
+    CHECK(all(array, sizeof array, 0xAA));
+
+    memset(text, 0xEE, sizeof text);
+    characters = 77;
+    CHECK(oxterin_write_hex(array, 131072, text, OXTERIN_HEX_TEXT - 1, &characters) == OXTERIN_HEX_ROOM && characters == 0);
+    characters = 77;
+    CHECK(oxterin_write_hex(array, 65536, text, OXTERIN_SMALL_HEX_TEXT - 1, &characters) == OXTERIN_HEX_ROOM && characters == 0);
+    CHECK(oxterin_write_hex(array, 65536, NULL, OXTERIN_SMALL_HEX_TEXT, &characters) == OXTERIN_HEX_ROOM && characters == 0);
+    characters = 77;
+    CHECK(oxterin_write_hex(array, 131071, text, 0, &characters) == OXTERIN_HEX_ARRAY_LENGTH && characters == 0);
+    CHECK(oxterin_write_hex(NULL, 131072, text, sizeof text, &characters) == OXTERIN_HEX_ARRAY_LENGTH && characters == 0);
+    CHECK(all(text, sizeof text, 0xEE) && all(array, sizeof array, 0xAA));
+    CHECK(strcmp(oxterin_refusal_text(OXTERIN_HEX_CHECKSUM), "a record has a wrong checksum") == 0);
+}
+
+/* The two functions on words: another count of words than one is not read, and no word beside it is written. */
+static void hex_words(void) {
+    const uint8_t end[] = ":00000001FF\n";
+    uint64_t words[2] = {77, 78};
+    memset(array, 0xAA, sizeof array);
+    memset(text, 0xEE, sizeof text);
+    CHECK(oxterin_hex_write(array, sizeof array, text, sizeof text, words, 0) == OXTERIN_UNREAD);
+    CHECK(oxterin_hex_write(array, sizeof array, text, sizeof text, words, 2) == OXTERIN_UNREAD);
+    CHECK(oxterin_hex_write(array, 0, text, 0, words, 2) == OXTERIN_UNREAD);
+    CHECK(oxterin_hex_read(end, sizeof end - 1, array, sizeof array, words, 0) == OXTERIN_UNREAD);
+    CHECK(oxterin_hex_read(end, sizeof end - 1, array, 0, words, 2) == OXTERIN_UNREAD);
+    CHECK(words[0] == 77 && words[1] == 78 && all(text, sizeof text, 0xEE) && all(array, sizeof array, 0xAA));
+    CHECK(oxterin_hex_read(end, sizeof end - 1, array, sizeof array, words, 1) == 0 && words[0] == 0 && words[1] == 78);
+    CHECK(oxterin_hex_read(end, sizeof end, array, sizeof array, words, 1) == 16 && words[0] == 12 && words[1] == 78);
+    CHECK(all(text, sizeof text, 0xEE) && all(array, sizeof array, 0xAA));
+    CHECK(oxterin_hex_write(array, sizeof array, text, sizeof text, words, 1) == 0 && words[0] == 360492 && words[1] == 78);
+}
+
 int main(void) {
     records_and_settings();
     program_and_poll();
     refusals();
     looks();
+    hex_written();
+    hex_read();
+    hex_refusals();
+    hex_words();
     printf("%d faults\n", faults);
     return faults != 0;
 }

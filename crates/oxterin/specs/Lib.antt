@@ -1,2 +1,3 @@
 pub mod Face
 pub mod Promises
+pub mod Hex

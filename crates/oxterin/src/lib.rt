@@ -26,6 +26,7 @@ ghost use lib.ListN.{length};
 ghost use Rattle.part.specs.Frame as spec;
 ghost use Rattle.part.specs.Frame.{lent, replyOf};
 ghost use Rattle.oxterin.specs.Face as face;
+ghost use Rattle.oxterin.specs.Hex.{spoken, textOut, textIn};
 ghost use Rattle.packing.specs.Packing.{packed, isSettings, answerOf, numberIf, writtenIf};
 
 // The version of this face.
@@ -33,7 +34,7 @@ ghost use Rattle.packing.specs.Packing.{packed, isSettings, answerOf, numberIf,
 pub extern "C" fn oxterin_version() -> u64
     ensures { λ r. ⌜ r ≡ face.version ⌝ }
 {
-    1000000
+    1001000
 }
 
 // A fresh record, from BPL, BP0 and the OTP-used mark.
@@ -178,6 +179,38 @@ pub extern "C" fn oxterin_frame(
             output,
             answer,
         );
+    }
+    UNREAD
+}
+
+// An array as Intel HEX text: the number of the refusal, 0 if the text was written. The word becomes the number of characters.
+#[no_mangle]
+pub extern "C" fn oxterin_hex_write(array: &[u8], text: &mut [u8], characters: &mut [u64]) -> u64
+    ensures { λ r. ⌜
+        spoken r (now (characters .exit)) (now (text .exit)) ≡
+        textOut (now (array .entry)) (now (text .entry)) (now (characters .entry))
+        ⌝ }
+{
+    if characters.len() == 1 {
+        let written = ihex_write::write(array, text);
+        characters[0] = written.characters as u64;
+        return wide(written.refusal);
+    }
+    UNREAD
+}
+
+// Intel HEX text into an array: the number of the refusal, 0 if the text was read. The word becomes the place where the faulty record
+// begins.
+#[no_mangle]
+pub extern "C" fn oxterin_hex_read(text: &[u8], array: &mut [u8], place: &mut [u64]) -> u64
+    ensures { λ r. ⌜
+        spoken r (now (place .exit)) (now (array .exit)) ≡ textIn (now (text .entry)) (now (array .entry)) (now (place .entry))
+        ⌝ }
+{
+    if place.len() == 1 {
+        let reading = ihex_read::read(text, array);
+        place[0] = reading.place as u64;
+        return wide(reading.refusal);
     }
     UNREAD
 }

@@ -1,13 +1,59 @@
 //! Array images in files: read whole, written whole.
 use crate::complaint::{complaint, Complaint};
+use crate::hex;
+use crate::source::Source;
+use oxterin::{ImageLength, Size};
 use std::ffi::OsString;
 use std::fs::{self, File};
 use std::io::{self, Write};
 use std::path::{Path, PathBuf};
 
-/// The bytes of an image file.
-pub fn load(path: &str) -> Result<Vec<u8>, Complaint> {
-    fs::read(path).map_err(|error| complaint(format!("{path}: {error}")))
+/// The array that an image file holds. A file of HEX text fills an array of this size, 131,072 bytes unless it is given; other files have a
+/// size of their own.
+pub fn load(path: &str, size: Option<Size>) -> Result<Vec<u8>, Complaint> {
+    let source = Source::File(path);
+    let bytes = source.read()?;
+    if is_hex(path) {
+        return hex::array(source, &bytes, size.unwrap_or(Size::Whole));
+    }
+    match Size::of_bytes(bytes.len()) {
+        Some(_) => Ok(bytes),
+        None => Err(wrong_length(source, &bytes)),
+    }
+}
+
+/// Saves an array as [`save`] does, as HEX text if the file's name asks for it.
+pub fn keep(path: &str, array: &[u8]) -> Result<(), Complaint> {
+    if is_hex(path) {
+        return save(path, &hex::text(Source::File(path), array)?);
+    }
+    save(path, array)
+}
+
+/// Whether a file has HEX text, by its name.
+fn is_hex(path: &str) -> bool {
+    let path = path.to_ascii_lowercase();
+    path.ends_with(".hex") || path.ends_with(".ihex")
+}
+
+/// The complaint of an image that has the length of no array.
+pub fn wrong_length(source: Source<'_>, image: &[u8]) -> Complaint {
+    let remedy = match image.len() {
+        0 => "name a file that is not empty".to_string(),
+        _ if image[0] == b':' => format!(
+            "it begins as Intel HEX does: turn it into an image first: {}",
+            source.turned("oxterin hex from", "bin")
+        ),
+        1..=131_072 => format!(
+            "fill it up with FFh first: {}",
+            source.converted("-binary -fill 0xFF 0 131072", "-binary", "bin")
+        ),
+        _ => format!(
+            "if its first 131072 bytes are meant, take those: {}",
+            source.filtered("head -c 131072", "bin")
+        ),
+    };
+    complaint(format!("{}: {}; {remedy}", source.name(), ImageLength(image.len())))
 }
 
 /// Whether an image could be saved there, without touching what is there.

@@ -2,6 +2,8 @@
 #![forbid(unsafe_code)]
 
 mod complaint;
+mod hex;
+mod hex_fault;
 mod image;
 mod lines;
 mod options;
@@ -9,6 +11,7 @@ mod run;
 mod serprog;
 mod serve;
 mod session;
+mod source;
 
 use complaint::{complain, complaint, Complaint};
 use std::io::{self, Write};
@@ -22,6 +25,7 @@ Usage: oxterin COMMAND [OPTIONS]
   session     the built-in session of four frames
   run         frames from a file or standard input, answered line by line
   serve       the part behind the serprog protocol, for flashrom and other clients
+  hex         array images to Intel HEX text, and back
 
   oxterin COMMAND --help    what a command takes
   oxterin --version         the version of the command and of the proved library, and how that was built
@@ -68,11 +72,13 @@ fn obey(words: &[String]) -> Result<(), Complaint> {
         "session" if asks_help => say(session::HELP),
         "run" if asks_help => say(&run::help()),
         "serve" if asks_help => say(&serve::help()),
+        "hex" if asks_help => say(hex::HELP),
         "session" if rest.is_empty() => say(&session::lines()?),
         "session" => Err(complaint(format!("session takes nothing behind it, and was given {}", rest[0]))),
         "run" => run::run(rest),
         "serve" => serve::serve(rest),
-        other => Err(complaint(format!("unknown command {other}; there are session, run and serve"))),
+        "hex" => hex::hex(rest),
+        other => Err(complaint(format!("unknown command {other}; there are session, run, serve and hex"))),
     }
 }
 
@@ -88,7 +94,14 @@ fn version() -> String {
 
 /// Writes a text to standard output.
 fn say(text: &str) -> Result<(), Complaint> {
-    io::stdout()
-        .write_all(text.as_bytes())
+    put(text.as_bytes())
+}
+
+/// Writes bytes to standard output.
+fn put(bytes: &[u8]) -> Result<(), Complaint> {
+    let mut output = io::stdout().lock();
+    output
+        .write_all(bytes)
+        .and_then(|()| output.flush())
         .map_err(|error| complaint(format!("standard output: {error}")))
 }

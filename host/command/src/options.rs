@@ -1,5 +1,6 @@
 //! The words behind a subcommand: options with a value, options without, and the rest.
 use crate::complaint::{complaint, Complaint};
+use crate::image;
 use oxterin::{Part, Settings, Size};
 
 /// What a subcommand was given.
@@ -72,8 +73,9 @@ pub const PART_VALUED: [&str; 3] = ["--size", "--image", "--set"];
 /// Those of them that take no value.
 pub const PART_FLAGS: [&str; 3] = ["--bpl", "--bp0", "--otp-used"];
 /// What they mean.
-pub const PART_HELP: &str = "  --size BYTES        131072 (default) or 65536; with --image its own size
-  --image FILE        the array's first content; without it every byte is FFh
+pub const PART_HELP: &str = "  --size BYTES        131072 (default) or 65536; an --image that is not HEX has its own size
+  --image FILE        the array's first content; without it every byte is FFh. A file whose name ends in
+                      .hex or .ihex is Intel HEX text, and bytes that it does not name are FFh
   --set NAME=TICKS    a duration: byte-program, longer-program, page-erase, erase-4k, erase-32k,
                       chip-erase, otp-program, status-write; typical ones are the default
   --bpl --bp0         the first record has BPL, or BP0, set
@@ -89,29 +91,42 @@ pub fn number(text: &str) -> Option<u64> {
     digits.parse().ok()
 }
 
+/// `--size BYTES`: the size of the array, if it is said.
+pub fn size(given: &Given) -> Result<Option<Size>, Complaint> {
+    given.value("--size").map_or(Ok(None), |text| {
+        let size = number(text).and_then(|bytes| Size::of_bytes(usize::try_from(bytes).ok()?));
+        match size {
+            Some(size) => Ok(Some(size)),
+            None => Err(complaint(format!("--size {text}: a part has 131072 or 65536 bytes"))),
+        }
+    })
+}
+
 /// The part that the options describe.
 pub fn part(given: &Given) -> Result<Part, Complaint> {
+    let size = size(given)?;
     let mut part = match given.value("--image") {
-        Some(path) => Part::with_image(crate::image::load(path)?).map_err(|wrong| complaint(format!("{path}: {wrong}")))?,
-        None => Part::blank(Size::Whole),
+        Some(path) => holding(path, size)?,
+        None => Part::blank(size.unwrap_or(Size::Whole)),
     };
-    if let Some(text) = given.value("--size") {
-        let size = number(text).and_then(|bytes| Size::of_bytes(usize::try_from(bytes).ok()?));
-        let size = size.ok_or_else(|| complaint(format!("--size {text}: a part has 131072 or 65536 bytes")))?;
-        if given.value("--image").is_none() {
-            part = Part::blank(size);
-        } else if part.array().len() != size.bytes() {
-            return Err(complaint(format!(
-                "--size {text}: the image has {} bytes; leave --size out, or give an image of that size",
-                part.array().len()
-            )));
-        }
-    }
     for setting in given.values("--set") {
         part.settings = set(part.settings, setting)?;
     }
     part.record = oxterin::Record::fresh(given.has("--bpl"), given.has("--bp0"), given.has("--otp-used"));
     Ok(part)
+}
+
+/// A part whose array holds the image of this file, which has the size that is said.
+fn holding(path: &str, size: Option<Size>) -> Result<Part, Complaint> {
+    let part = Part::with_image(image::load(path, size)?).map_err(|wrong| complaint(format!("{path}: {wrong}")))?;
+    match size {
+        Some(size) if part.array().len() != size.bytes() => Err(complaint(format!(
+            "--size {}: the image has {} bytes; leave --size out, or give an image of that size",
+            size.bytes(),
+            part.array().len()
+        ))),
+        _ => Ok(part),
+    }
 }
 
 /// The settings with one duration changed, given as `NAME=TICKS`.

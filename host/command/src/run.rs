@@ -30,7 +30,7 @@ Each is answered by the bytes sent, what the output read, and status byte 1 afte
 
 Options:
 {PART_HELP}  --wp low|high       WP's level where a line does not say (default high)
-  --save FILE         afterwards the array's content goes to FILE, whole
+  --save FILE         afterwards the array's content goes to FILE, whole; to a name in .hex or .ihex as Intel HEX
   --explain           each line also says the outcome, the driven positions and the busy ticks left
 "
     )
@@ -76,7 +76,7 @@ pub fn run(words: &[String]) -> Result<(), Complaint> {
             say(&answer(&mut part, &frame, given.has("--explain")).map_err(|words| complaint(format!("{place}: {words}")))?)?;
         }
     }
-    given.value("--save").map_or(Ok(()), |path| image::save(path, part.array()))
+    given.value("--save").map_or(Ok(()), |path| image::keep(path, part.array()))
 }
 
 /// Where the lines come from, and what to call that.

@@ -18,7 +18,8 @@ Usage: oxterin serve [OPTIONS]
 
   --port N            the TCP port, at the loopback address only; 8025 (default), or 0 for any free one
 {PART_HELP}  --wp low|high       the level of WP; high is the default
-  --save OUT          where the array is saved; OUT may be the --image file
+  --save OUT          where the array is saved, as Intel HEX if the name ends in .hex or .ihex; OUT may be
+                      the --image file
   --log FILE          a line for each frame
   --once              stop when the first client has left
 
@@ -156,7 +157,7 @@ fn parting(error: &io::Error) -> Complaint {
 fn save(given: &Given, programmer: &Programmer) -> Result<(), Complaint> {
     given
         .value("--save")
-        .map_or(Ok(()), |path| image::save(path, programmer.part().array()))
+        .map_or(Ok(()), |path| image::keep(path, programmer.part().array()))
 }
 
 /// Says on standard error what went wrong; the server lives.

@@ -135,7 +135,7 @@ fn a_refused_frame_ends_the_run() {
 #[test]
 fn wrong_words_are_complained_of_with_a_remedy() {
     for (words, remedy) in [
-        (&["rum"][..], "there are session, run and serve"),
+        (&["rum"][..], "there are session, run, serve and hex"),
         (&["session", "now"], "takes nothing"),
         (&["run", "--sise", "1"], "--help"),
         (&["run", "--size"], "wants a value"),
@@ -163,7 +163,7 @@ fn help_and_version() {
     }
     let version = oxterin(&["--version"], "");
     assert!(
-        said(&version).starts_with("oxterin 1.0.0\nproved library 1.0.0, built for "),
+        said(&version).starts_with("oxterin 1.1.0\nproved library 1.1.0, built for "),
         "{}",
         said(&version)
     );

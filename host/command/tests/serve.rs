@@ -428,6 +428,25 @@ fn the_image_is_saved_whole_when_a_client_has_left() {
 }
 
 #[test]
+fn an_image_in_hex_is_taken_and_saved_by_its_name() {
+    let folder = folder("hex-image");
+    let file = folder.join("flash.Hex");
+    fs::write(&file, ":040020006461746142\r\n:00000001FF").expect("a text");
+    let mut server = Server::start(&["--once", "--size", "65536", "--image", word(&file), "--save", word(&file)]);
+    let mut client = server.client();
+    client.frame(&[0x03, 0x00, 0x00, 0x1F], &[0xFF, b'd', b'a', b't', b'a', 0xFF]);
+    client.frame(&[0x06], &[]);
+    client.frame(&[0x02, 0x00, 0xFF, 0xFF, 0x3C], &[]);
+    drop(client);
+    assert!(server.ends_well());
+    let mut array = vec![0xFF; 65_536];
+    array[0x20..0x24].copy_from_slice(b"data");
+    array[0xFFFF] = 0x3C;
+    assert_eq!(fs::read(&file).expect("saved"), oxterin::hex_text(&array).expect("a text"));
+    assert_eq!(fs::read_dir(&folder).expect("the folder").count(), 1);
+}
+
+#[test]
 fn a_save_that_fails_later_does_not_end_the_server() {
     let folder = folder("failing");
     let place = folder.join("place");

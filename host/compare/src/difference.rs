@@ -1,5 +1,4 @@
 //! Where sides differ, in words.
-use crate::reply::Reply;
 use std::fmt;
 
 /// Everything in which a call's answers or the memories differ; empty if they agree.
@@ -31,7 +30,7 @@ impl Difference {
     }
 
     /// Compares a reply, none being a panic.
-    pub(crate) fn reply(&mut self, name: &str, reply: Option<Reply>, expected: &Reply) {
+    pub(crate) fn reply<R: PartialEq + fmt::Display>(&mut self, name: &str, reply: Option<R>, expected: &R) {
         match reply {
             Some(reply) if reply == *expected => {}
             Some(reply) => self.found.push(format!("{name} answers {reply}\n  against {expected}")),

@@ -50,7 +50,7 @@ pub fn report(calls: Vec<Call>) -> String {
 }
 
 /// Does something without the message that every panic of a side would print.
-fn quietly<T>(act: impl FnOnce() -> T) -> T {
+pub(crate) fn quietly<T>(act: impl FnOnce() -> T) -> T {
     let hook = panic::take_hook();
     panic::set_hook(Box::new(|_| {}));
     let done = act();

@@ -45,7 +45,7 @@ impl Memories {
 }
 
 /// So many bytes that seem to follow no order, each given by its place, counted from `first`.
-fn pattern(first: u32, length: usize) -> Vec<u8> {
+pub(crate) fn pattern(first: u32, length: usize) -> Vec<u8> {
     (first..first + length as u32)
         .map(|place| (place.wrapping_mul(0x9E37_79B1) >> 24) as u8)
         .collect()

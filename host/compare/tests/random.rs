@@ -2,11 +2,10 @@
 //!
 //! `COMPARE_FRAMES` asks for more frames than usual, `COMPARE_SEED` for the series of an earlier run, and `COMPARE_REPLAY` names a file
 //! with a series to run again.
-use compare::{replay, report, text, Call, Care, Generator, Random, Tally, Trial};
+use compare::{asked, clock, replay, report, text, Call, Care, Generator, Random, Tally, Trial};
 use oxterin::Size;
 use std::env;
 use std::thread;
-use std::time::{SystemTime, UNIX_EPOCH};
 
 /// How many frames a usual run has, both sizes together.
 const FRAMES: u64 = 1_000_000;
@@ -68,18 +67,4 @@ fn series(trial: &mut Trial, mut generator: Generator, length: u64, tally: &mut 
         tally.note(&call.record.unwrap_or(last), call, &reply);
     }
     trial.reset().map_err(|_| calls)
-}
-
-/// The number in an environment variable, if it is set.
-fn asked(name: &str) -> Option<u64> {
-    let value = env::var(name).ok()?;
-    Some(value.parse().unwrap_or_else(|_| panic!("{name}={value} is no number")))
-}
-
-/// A seed that no other run has.
-fn clock() -> u64 {
-    let since = SystemTime::now()
-        .duration_since(UNIX_EPOCH)
-        .expect("the clock is past the year 1970");
-    since.as_nanos() as u64
 }

@@ -4,10 +4,14 @@
 //! pass through the shift registers of `machine::Machine` one at a time, and
 //! at the rise of chip select `rise::settle` turns what was gathered into
 //! changes of the record and of the two memories.
+//!
+//! Apart from the frames, [`hex_write`] and [`hex_read`] turn an array into
+//! Intel HEX text and such a text into an array.
 
 #![forbid(unsafe_code)]
 
 mod decoder;
+mod hex;
 mod machine;
 mod page;
 mod record;
@@ -15,6 +19,7 @@ mod refusals;
 mod rise;
 mod view;
 
+pub use hex::{hex_read, hex_write};
 use machine::Machine;
 pub use record::{Mode, Record, Settings};
 pub use view::{look, Memory};

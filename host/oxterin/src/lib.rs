@@ -1,6 +1,7 @@
 //! A simulated AT25XE011, over a library whose every function is proved to answer as the data sheet's rules say.
 //!
-//! [`Part`] owns its memories; [`frame`] works on memories that you lend; [`raw`] is the face that C programs see, words and bytes.
+//! [`Part`] owns its memories; [`frame`] works on memories that you lend; [`hex_text`] and [`hex_read`] turn an array into Intel HEX text
+//! and back; [`raw`] is the face that C programs see, words and bytes.
 //! Time passes only as the caller says, in ticks that come with each frame.
 //!
 //! ```
@@ -20,18 +21,20 @@
 #![deny(unsafe_code)]
 
 mod frame;
+mod hex;
 mod part;
 pub mod raw;
 mod record;
 
 pub use frame::{frame, look, Answer, Memory, Outcome, Refusal, Signals};
+pub use hex::{hex_read, hex_text, hex_write, HexError, HexRefusal};
 pub use part::{Exchange, ImageLength, Part, Size};
 pub use record::{Mode, Record, Settings};
 
 /// How the proved library in this program was built: for which machine, and by which way.
 pub const BUILT: &str = env!("OXTERIN_BUILT");
 
-/// The version of the proved face, such as `1.0.0`.
+/// The version of the proved face, such as `1.1.0`.
 #[must_use]
 pub fn version() -> String {
     let number = raw::version();

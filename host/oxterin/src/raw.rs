@@ -18,6 +18,8 @@ pub const ANSWER: usize = 3;
 pub const STATUS: usize = 2;
 /// The words of a look: where it begins, how many bytes it has.
 pub const PLACE: usize = 2;
+/// The words that a call on HEX text tells: the characters written, or the place of the faulty record.
+pub const TOLD: usize = 1;
 
 extern "C" {
     fn oxterin_version() -> u64;
@@ -53,6 +55,15 @@ extern "C" {
         answer: *mut u64,
         answer_len: usize,
     ) -> u64;
+    fn oxterin_hex_write(
+        array: *const u8,
+        array_len: usize,
+        text: *mut u8,
+        text_len: usize,
+        characters: *mut u64,
+        characters_len: usize,
+    ) -> u64;
+    fn oxterin_hex_read(text: *const u8, text_len: usize, array: *mut u8, array_len: usize, place: *mut u64, place_len: usize) -> u64;
 }
 
 // Safety, for every call below: the proved functions read and write inside the slices that they are handed, whatever their lengths and
@@ -126,6 +137,36 @@ pub fn frame(
             output.len(),
             answer.as_mut_ptr(),
             answer.len(),
+        )
+    }
+}
+
+/// Writes the array's content as Intel HEX text, and how many characters that has, 0 if refused. The number is the refusal's, 0 for an
+/// accepted call.
+pub fn hex_write(array: &[u8], text: &mut [u8], characters: &mut [u64]) -> u64 {
+    unsafe {
+        oxterin_hex_write(
+            array.as_ptr(),
+            array.len(),
+            text.as_mut_ptr(),
+            text.len(),
+            characters.as_mut_ptr(),
+            characters.len(),
+        )
+    }
+}
+
+/// Reads Intel HEX text into the array, and writes the place of the character at which the faulty record begins, 0 if there is none. The
+/// number is the refusal's, 0 for an accepted call.
+pub fn hex_read(text: &[u8], array: &mut [u8], place: &mut [u64]) -> u64 {
+    unsafe {
+        oxterin_hex_read(
+            text.as_ptr(),
+            text.len(),
+            array.as_mut_ptr(),
+            array.len(),
+            place.as_mut_ptr(),
+            place.len(),
         )
     }
 }

@@ -1,13 +1,7 @@
 //! How long a frame takes: the proved part, the model, and a plain copy or fill of as many bytes.
+use compare::measure::{processor, short, Contender, ROUND, ROUNDS};
 use std::hint::black_box;
-use std::process::{Command, ExitCode};
-use std::time::{Duration, Instant};
-
-/// How often each contender is measured.
-const ROUNDS: u32 = 15;
-
-/// About how long one measurement takes.
-const ROUND: Duration = Duration::from_millis(20);
+use std::process::ExitCode;
 
 /// A frame to be measured.
 struct Case {
@@ -30,16 +24,6 @@ enum Plain {
     Copy(usize),
     /// Filling so many bytes.
     Fill(usize),
-}
-
-/// Something that can be done over and over, and the least time it took.
-struct Contender {
-    /// Does it so many times.
-    repeat: Box<dyn FnMut(u64)>,
-    /// How many times make a round.
-    times: u64,
-    /// The fewest nanoseconds for one time so far.
-    best: f64,
 }
 
 fn main() -> ExitCode {
@@ -87,35 +71,6 @@ fn contenders(case: &Case) -> Vec<Contender> {
         Plain::Fill(bytes) => contenders.push(Contender::new(fill(bytes))),
     }
     contenders
-}
-
-impl Contender {
-    /// Warms up, and finds how many times make a round.
-    fn new(mut repeat: Box<dyn FnMut(u64)>) -> Contender {
-        let mut times = 1;
-        loop {
-            let start = Instant::now();
-            repeat(times);
-            let taken = start.elapsed();
-            if taken >= ROUND / 4 {
-                let wanted = times as f64 * ROUND.as_secs_f64() / taken.as_secs_f64();
-                return Contender {
-                    repeat,
-                    times: (wanted as u64).max(1),
-                    best: f64::INFINITY,
-                };
-            }
-            times *= 2;
-        }
-    }
-
-    /// One round; its nanoseconds for one time are kept if they are the fewest so far.
-    fn measure(&mut self) {
-        let start = Instant::now();
-        (self.repeat)(self.times);
-        let nanoseconds = start.elapsed().as_secs_f64() * 1e9 / self.times as f64;
-        self.best = self.best.min(nanoseconds);
-    }
 }
 
 /// The frame on the proved part, through the safe wrapper.
@@ -224,24 +179,14 @@ fn print_conditions() {
     println!();
 }
 
-/// The processor's name, from the system's files or else from `lscpu`.
-fn processor() -> String {
-    let listed = Command::new("lscpu").output().map(|told| told.stdout).unwrap_or_default();
-    let known = std::fs::read_to_string("/proc/cpuinfo").unwrap_or_default() + &String::from_utf8_lossy(&listed);
-    let name = known.lines().filter_map(|line| line.split_once(':'));
-    let mut name = name.filter(|(key, _)| key.trim().eq_ignore_ascii_case("model name"));
-    name.next()
-        .map_or("an unnamed processor".to_string(), |(_, value)| value.trim().to_string())
-}
-
 /// A row for each frame, with the least times.
 fn print_table(cases: &[Case], contenders: &[Vec<Contender>]) {
     println!("| frame | proved, ns | proved, frames/s | model, ns | model, frames/s | proved / model | copy or fill, ns | proved / copy or fill |");
     println!("|---|--:|--:|--:|--:|--:|--:|--:|");
     for (case, contenders) in cases.iter().zip(contenders) {
-        let proved = contenders[0].best;
-        let model = contenders[1].best;
-        let plain = contenders.get(2).map(|plain| plain.best);
+        let proved = contenders[0].best();
+        let model = contenders[1].best();
+        let plain = contenders.get(2).map(Contender::best);
         println!(
             "| {} | {} | {} | {} | {} | {} | {} | {} |",
             case.name,
@@ -254,27 +199,4 @@ fn print_table(cases: &[Case], contenders: &[Vec<Contender>]) {
             plain.map_or("-".to_string(), |plain| short(proved / plain)),
         );
     }
-}
-
-/// A number with three digits that count, thousands set apart.
-fn short(number: f64) -> String {
-    match number {
-        number if number < 0.1 => format!("{number:.4}"),
-        number if number < 1.0 => format!("{number:.3}"),
-        number if number < 10.0 => format!("{number:.2}"),
-        number if number < 100.0 => format!("{number:.1}"),
-        number => grouped(&format!("{number:.0}")),
-    }
-}
-
-/// Digits with a comma before every third from the end.
-fn grouped(digits: &str) -> String {
-    let mut text = String::new();
-    for (place, digit) in digits.chars().enumerate() {
-        if place > 0 && (digits.len() - place).is_multiple_of(3) {
-            text.push(',');
-        }
-        text.push(digit);
-    }
-    text
 }

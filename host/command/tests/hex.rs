@@ -1,0 +1,540 @@
+//! `oxterin hex`, and HEX files of `run`, as their user sees them: what is written where, and what is complained of a faulty text.
+use std::fs;
+use std::io::Write;
+use std::path::{Path, PathBuf};
+use std::process::{Command, Output, Stdio};
+
+/// The end record with its line's ending.
+const END: &str = ":00000001FF\n";
+
+/// Runs the command with these words, and these bytes on standard input.
+fn oxterin(words: &[&str], input: &[u8]) -> Output {
+    let mut child = Command::new(env!("CARGO_BIN_EXE_oxterin"))
+        .args(words)
+        .stdin(Stdio::piped())
+        .stdout(Stdio::piped())
+        .stderr(Stdio::piped())
+        .spawn()
+        .expect("the command starts");
+    // A command that complains before it reads leaves its input unread.
+    let _ = child.stdin.take().expect("standard input").write_all(input);
+    child.wait_with_output().expect("the command ends")
+}
+
+/// Runs the command, which has to end well and say nothing but these bytes.
+fn says(words: &[&str], input: &[u8]) -> Vec<u8> {
+    let output = oxterin(words, input);
+    let complaint = String::from_utf8_lossy(&output.stderr);
+    assert!(output.status.success() && complaint.is_empty(), "{words:?}: {complaint}");
+    output.stdout
+}
+
+/// Runs the command, which has to fail and write nothing on standard output: what it complains of.
+fn complaint(words: &[&str], input: &[u8]) -> String {
+    let output = oxterin(words, input);
+    assert_eq!(output.status.code(), Some(2), "{words:?}");
+    assert_eq!(output.stdout, b"", "{words:?}");
+    let complaint = String::from_utf8(output.stderr).expect("text");
+    let words = complaint.strip_prefix("oxterin: ").and_then(|words| words.strip_suffix('\n'));
+    words
+        .expect("a complaint is a line that begins with the command's name")
+        .to_string()
+}
+
+/// An empty folder for a test's files.
+fn folder(name: &str) -> PathBuf {
+    let folder = Path::new(env!("CARGO_TARGET_TMPDIR")).join("hex").join(name);
+    let _ = fs::remove_dir_all(&folder);
+    fs::create_dir_all(&folder).expect("a folder");
+    folder
+}
+
+/// A path as a word of the command line.
+fn word(path: &Path) -> &str {
+    path.to_str().expect("the path is text")
+}
+
+/// An image of which no two blocks of 64 KiB and no two pages are alike.
+fn image(bytes: usize) -> Vec<u8> {
+    (0..bytes as u32).map(|k| (k.wrapping_mul(0x9E37_79B1) >> 24) as u8).collect()
+}
+
+/// A record with its line's ending.
+fn record(kind: u8, address: u16, data: &[u8]) -> String {
+    let [high, low] = address.to_be_bytes();
+    let length = u8::try_from(data.len()).expect("a record's length is a byte");
+    let mut bytes = [&[length, high, low, kind], data].concat();
+    bytes.push(bytes.iter().fold(0, |sum, byte| sum.wrapping_sub(*byte)));
+    let digits: String = bytes.iter().map(|byte| format!("{byte:02X}")).collect();
+    format!(":{digits}\n")
+}
+
+#[test]
+fn an_image_becomes_a_text_and_the_text_the_image() {
+    let folder = folder("round");
+    let (before, text, after) = (folder.join("before.bin"), folder.join("text.hex"), folder.join("after.bin"));
+    for (bytes, characters, size) in [(131_072, 360_492, &[][..]), (65_536, 180_252, &["--size", "65536"])] {
+        fs::write(&before, image(bytes)).expect("written");
+        assert_eq!(says(&["hex", "to", word(&before), word(&text)], b""), b"");
+        let written = fs::read_to_string(&text).expect("a text");
+        assert_eq!(written.len(), characters);
+        assert!(written.starts_with(":020000040000FA\n:10000000") && written.ends_with(END));
+        assert_eq!(says(&[&["hex", "from", word(&text), word(&after)], size].concat(), b""), b"");
+        assert_eq!(fs::read(&after).expect("an image"), image(bytes));
+    }
+    assert_eq!(fs::read_dir(&folder).expect("the folder").count(), 3);
+}
+
+#[test]
+fn a_dash_is_standard_input_or_output() {
+    let folder = folder("dash");
+    let file = folder.join("file");
+    let text = says(&["hex", "to", "-", "-"], &image(131_072));
+    assert_eq!(text.len(), 360_492);
+    assert_eq!(says(&["hex", "from", "-", "-"], &text), image(131_072));
+    assert_eq!(says(&["hex", "from", "-", word(&file)], &text), b"");
+    assert_eq!(fs::read(&file).expect("an image"), image(131_072));
+    assert_eq!(says(&["hex", "to", word(&file), "-"], b""), text);
+    let small = says(&["hex", "to", "-", "-"], &image(65_536));
+    assert_eq!(says(&["hex", "--size=65,536", "from", "-", "-"], &small), image(65_536));
+}
+
+#[test]
+fn bytes_that_no_record_names_are_ff_and_later_records_win() {
+    let text = ":0400100001020304e2\r\n:020000040001F9\n:01FFFF00CA37\r\n:020000040000FA\n:02001100CAFE25\n:00000001ff";
+    let mut wanted = vec![0xFF; 131_072];
+    wanted[0x10..0x14].copy_from_slice(&[0x01, 0xCA, 0xFE, 0x04]);
+    wanted[0x1_FFFF] = 0xCA;
+    assert!(says(&["hex", "from", "-", "-"], text.as_bytes()) == wanted);
+    assert_eq!(
+        says(&["hex", "from", "-", "-", "--size", "131072"], END.as_bytes()),
+        [0xFF; 131_072]
+    );
+    assert_eq!(says(&["hex", "from", "-", "-", "--size", "65536"], END.as_bytes()), [0xFF; 65_536]);
+}
+
+/// What is complained of a text with this name's file and this size of the array, without the file's name.
+fn fault(folder: &Path, text: &[u8], size: &str) -> String {
+    let (file, out) = (folder.join("fw.hex"), folder.join("out.bin"));
+    fs::write(&file, text).expect("written");
+    fs::write(&out, "as it was").expect("written");
+    let words = complaint(&["hex", "from", word(&file), word(&out), "--size", size], b"");
+    assert_eq!(fs::read(&out).expect("there"), b"as it was");
+    assert_eq!(fs::read_dir(folder).expect("the folder").count(), 2);
+    let words = words.replace(word(&file), "fw.hex");
+    words.strip_prefix("fw.hex:").expect("the file is named first").to_string()
+}
+
+/// Asserts what is complained of texts behind a good record, on an array of 131,072 bytes.
+fn faults(name: &str, cases: &[(&str, &str)]) {
+    let folder = folder(name);
+    for (text, wanted) in cases {
+        let text = record(0, 0x10, b"good") + text;
+        assert_eq!(fault(&folder, text.as_bytes(), "131072"), *wanted, "{text}");
+    }
+}
+
+const ANEW: &str = "the file was damaged or edited by hand: make it anew";
+
+#[test]
+fn lines_that_are_no_records_are_named_with_what_they_have() {
+    faults(
+        "malformed",
+        &[
+            (
+                "\n:00000001FF\n",
+                r"2:1: an empty line, and each line is a record; delete it: sed '/^\r*$/d' <fw.hex >new.hex",
+            ),
+            (
+                "\r\n:00000001FF\r\n",
+                r"2:1: an empty line, and each line is a record; delete it: sed '/^\r*$/d' <fw.hex >new.hex",
+            ),
+            (
+                "; made by hand\n:00000001FF\n",
+                "2:1: the character ; stands where the colon of a record belongs; \
+                 delete the line if it is no record (sed 2d <fw.hex >new.hex), or make the file anew",
+            ),
+            (
+                " :00000001FF\n",
+                r"2:1: a blank stands where the colon of a record belongs; delete the blanks: tr -d ' \t' <fw.hex >new.hex",
+            ),
+            (":0O000001FF\n", &format!("2:3: the character O is no hexadecimal digit; {ANEW}")),
+            (
+                ":00é00001FF\n",
+                &format!("2:4: the character U+00E9 is no hexadecimal digit; {ANEW}"),
+            ),
+            (":00000001F\u{1A}\n", &format!("2:11: the byte 1Ah is no hexadecimal digit; {ANEW}")),
+            (
+                ":00 0000 01 FF\n",
+                r"2:4: a blank is no hexadecimal digit; delete the blanks: tr -d ' \t' <fw.hex >new.hex",
+            ),
+            (
+                ":00\t000001FF\n",
+                r"2:4: a tab is no hexadecimal digit; delete the blanks: tr -d ' \t' <fw.hex >new.hex",
+            ),
+            (
+                ":\u{0}000000001FF\n",
+                r"2:2: NUL is no hexadecimal digit; save the file as plain ASCII, such as by tr -d '\000' <fw.hex >new.hex",
+            ),
+            (
+                ":00000001FF\r:00000001FF\r",
+                r"2:12: CR without LF; end each line with LF or CR LF: tr -s '\r' '\n' <fw.hex >new.hex",
+            ),
+            (
+                ":00000001FF\r",
+                r"2:12: CR without LF; end each line with LF or CR LF: tr -s '\r' '\n' <fw.hex >new.hex",
+            ),
+            (
+                ":00000001FF\r\r\n",
+                r"2:12: CR without LF; end each line with LF or CR LF: tr -s '\r' '\n' <fw.hex >new.hex",
+            ),
+            (
+                ":0000\r0001FF\n",
+                r"2:6: CR without LF stands inside a record; end each line with LF or CR LF: tr -s '\r' '\n' <fw.hex >new.hex",
+            ),
+            (
+                ":0400:00000001FF\n",
+                "2:6: the character : stands inside a record; if a record begins there, give it a line of its own",
+            ),
+            (
+                ":10002000000102\n:00000001FF\n",
+                &format!("2:16: the line has 15 characters, and its length byte 10 asks for 43; {ANEW}"),
+            ),
+            (
+                ":10002000000102",
+                "2:16: the line has 15 characters, and its length byte 10 asks for 43; the file may be cut off: fetch it again",
+            ),
+            (
+                ":0\n:00000001FF\n",
+                &format!("2:3: the line ends before its length byte does, and a record has at least 11 characters; {ANEW}"),
+            ),
+            (
+                ":",
+                "2:2: the line ends before its length byte does, and a record has at least 11 characters; \
+                 the file may be cut off: fetch it again",
+            ),
+            (
+                ":01002000AA3500\n:00000001FF\n",
+                &format!("2:14: the line has 15 characters, and its length byte 01 asks for 13; {ANEW}"),
+            ),
+            (
+                ":01002000AA35  \n:00000001FF\n",
+                "2:14: the line has 15 characters, and its length byte 01 asks for 13: \
+                 a blank stands behind the record; delete the blanks: tr -d ' \\t' <fw.hex >new.hex",
+            ),
+            (
+                ":01002000AA35:00000001FF\n",
+                "2:14: the line has 24 characters, and its length byte 01 asks for 13: \
+                 the character : stands behind the record; if a record begins there, give it a line of its own",
+            ),
+            (
+                ":02000001AABB98\n",
+                "2:2: type 01 (end of file) has no data, and here its length is 02; \
+                 if the text ends there, write :00000001FF: sed '2s/.*/:00000001FF/' <fw.hex >new.hex",
+            ),
+            (
+                ":0400000400000001F7\n:00000001FF\n",
+                &format!("2:2: type 04 (extended linear address) has two bytes of data, and here its length is 04; {ANEW}"),
+            ),
+            (
+                ":00000004FC\n:00000001FF\n",
+                &format!("2:2: type 04 (extended linear address) has two bytes of data, and here its length is 00; {ANEW}"),
+            ),
+        ],
+    );
+}
+
+#[test]
+fn a_wrong_checksum_is_named_beside_the_right_one() {
+    faults(
+        "checksum",
+        &[
+            (
+                ":02002000CAFE17\n:00000001FF\n",
+                &format!("2:14: the checksum is 17, and the bytes before it give 16; {ANEW}, or write 16 if they are right"),
+            ),
+            (
+                ":00000001fe\n",
+                &format!("2:10: the checksum is FE, and the bytes before it give FF; {ANEW}, or write FF if they are right"),
+            ),
+            (
+                ":020000021000ED\n",
+                &format!("2:14: the checksum is ED, and the bytes before it give EC; {ANEW}, or write EC if they are right"),
+            ),
+        ],
+    );
+}
+
+#[test]
+fn types_that_are_not_read_have_their_names() {
+    faults(
+        "types",
+        &[
+            (
+                &record(2, 0, &[0x10, 0x00]),
+                "2:8: type 02 (extended segment address) is not read; convert the file first: srec_cat fw.hex -intel -o new.hex -intel",
+            ),
+            (
+                &record(3, 0, &[0, 0, 1, 0]),
+                "2:8: type 03 (start segment address) is not read; it has no data, so delete the line: sed 2d <fw.hex >new.hex",
+            ),
+            (
+                &record(5, 0, &[0, 0, 1, 0]),
+                "2:8: type 05 (start linear address) is not read; it has no data, so delete the line: sed 2d <fw.hex >new.hex",
+            ),
+            (
+                &record(0x2A, 0, &[]),
+                "2:8: type 2A is not of Intel HEX, which has 00 to 05; have the file made with types 00, 01 and 04 alone",
+            ),
+        ],
+    );
+}
+
+#[test]
+fn data_that_does_not_fit_has_its_addresses() {
+    faults(
+        "outside",
+        &[
+            (
+                &record(0, 0xFFF8, &[0; 16]),
+                "2:4: data at 00FFF8h to 010007h goes past the 64 KiB that begin at 000000h; \
+                 split the record first: srec_cat fw.hex -intel -o new.hex -intel -Output_Block_Alignment",
+            ),
+            (
+                &(record(4, 0, &[0, 2]) + &record(0, 0, &[0])),
+                "3:4: data at 020000h is outside the array, which has 131072 bytes; \
+                 take a file for this part, or drop first what is outside: srec_cat fw.hex -intel -crop 0 131072 -o new.hex -intel",
+            ),
+            (
+                &(record(4, 0, &[0, 1]) + &record(4, 0, &[0xFF, 0xFF]) + &record(0, 0xFFFE, &[0, 0])),
+                "4:4: data at FFFFFFFEh to FFFFFFFFh is outside the array, which has 131072 bytes; \
+                 take a file for this part, or drop first what is outside: srec_cat fw.hex -intel -crop 0 131072 -o new.hex -intel",
+            ),
+        ],
+    );
+    let folder = folder("small");
+    let text = record(4, 0, &[0, 1]) + &record(0, 0x20, &[0; 16]) + END;
+    assert_eq!(
+        fault(&folder, text.as_bytes(), "65536"),
+        "2:4: data at 010020h to 01002Fh is outside the array, which has 65536 bytes; give --size 131072"
+    );
+    let text = record(4, 0, &[0x08, 0]) + &record(0, 0x20, &[0; 16]) + END;
+    assert_eq!(
+        fault(&folder, text.as_bytes(), "65536"),
+        "2:4: data at 08000020h to 0800002Fh is outside the array, which has 65536 bytes; \
+         take a file for this part, or move its data down first: srec_cat fw.hex -intel -offset -0x8000000 -o new.hex -intel"
+    );
+}
+
+#[test]
+fn a_text_ends_with_its_end_record() {
+    let cut_off =
+        "the text ends without an end record, so the file may be cut off; fetch it again, or add the line :00000001FF if it is whole";
+    faults(
+        "end",
+        &[
+            ("", &format!("2:1: {cut_off}")),
+            (":020000040000FA", &format!("2:16: {cut_off}")),
+            (
+                ":00000001FF\n\n",
+                "3:1: an empty line stands behind the end record; delete it: head -n 2 <fw.hex >new.hex",
+            ),
+            (
+                ":00000001FF\r\n\u{1A}",
+                "3:1: the byte 1Ah stands behind the end record; delete it: head -n 2 <fw.hex >new.hex",
+            ),
+            (
+                ":00000001FF\n:00000001FF\n",
+                "3:1: a record stands behind the end record; if two texts were joined, join them by \
+                 srec_cat one.hex -intel two.hex -intel -o new.hex -intel; else delete it: head -n 2 <fw.hex >new.hex",
+            ),
+        ],
+    );
+    assert_eq!(
+        fault(&folder("empty"), b"", "131072"),
+        "1:1: the text is empty; name a file that has records"
+    );
+}
+
+#[test]
+fn files_that_are_no_hex_at_all_are_known() {
+    let folder = folder("no-hex");
+    for (text, wanted) in [
+        (
+            &b"\xEF\xBB\xBF:00000001FF\n"[..],
+            "1:1: a byte order mark; delete it: tail -c +4 <fw.hex >new.hex",
+        ),
+        (
+            b"\xFF\xFE:\0",
+            "1:1: a text in UTF-16, and HEX is ASCII; convert it first: iconv -f UTF-16 -t ASCII <fw.hex >new.hex",
+        ),
+        (
+            b"S00600004844521B\n",
+            "1:1: a Motorola S-record; convert the file first: srec_cat fw.hex -motorola -o new.hex -intel",
+        ),
+        (
+            &[0xFF; 65_536],
+            "1:1: no colon, and as many bytes as an image has; if it is one, make HEX of it first: oxterin hex to fw.hex new.hex",
+        ),
+        (
+            b"\x7FELF",
+            "1:1: the byte 7Fh stands where the colon of a record belongs; \
+             delete the line if it is no record (sed 1d <fw.hex >new.hex), or make the file anew",
+        ),
+    ] {
+        assert_eq!(fault(&folder, text, "131072"), wanted);
+    }
+}
+
+#[test]
+fn a_fault_of_standard_input_is_one_of_its_lines() {
+    let text = record(0, 0, b"data") + &record(2, 0, &[0x10, 0x00]) + END;
+    assert_eq!(
+        complaint(&["hex", "from", "-", "-"], text.as_bytes()),
+        "standard input:2:8: type 02 (extended segment address) is not read; convert the file first: srec_cat - -intel -o - -intel"
+    );
+    let missing = folder("unwritten").join("out.bin");
+    complaint(&["hex", "from", "-", word(&missing)], text.as_bytes());
+    assert!(!missing.exists());
+}
+
+#[test]
+fn an_image_of_another_size_is_named_with_its_size_and_a_remedy() {
+    let folder = folder("sizes");
+    let (file, out) = (folder.join("fw.bin"), folder.join("out.hex"));
+    fs::write(&out, "as it was").expect("written");
+    let sizes = "an image has 65,536 or 131,072 bytes, and this one has";
+    for (bytes, wanted) in [
+        (vec![], format!("fw.bin: {sizes} 0; name a file that is not empty")),
+        (
+            vec![0; 100_000],
+            format!("fw.bin: {sizes} 100000; fill it up with FFh first: srec_cat fw.bin -binary -fill 0xFF 0 131072 -o new.bin -binary"),
+        ),
+        (
+            vec![0; 131_073],
+            format!("fw.bin: {sizes} 131073; if its first 131072 bytes are meant, take those: head -c 131072 <fw.bin >new.bin"),
+        ),
+        (
+            END.into(),
+            format!("fw.bin: {sizes} 12; it begins as Intel HEX does: turn it into an image first: oxterin hex from fw.bin new.bin"),
+        ),
+    ] {
+        fs::write(&file, bytes).expect("written");
+        for words in [
+            &["hex", "to", word(&file), word(&out)][..],
+            &["run", "--image", word(&file), "--save", word(&out)],
+        ] {
+            assert_eq!(complaint(words, b"").replace(word(&file), "fw.bin"), wanted);
+        }
+        assert_eq!(fs::read(&out).expect("there"), b"as it was");
+    }
+    fs::write(&file, image(65_536)).expect("written");
+    assert_eq!(
+        complaint(&["run", "--image", word(&file), "--size", "131072"], b""),
+        "--size 131072: the image has 65536 bytes; leave --size out, or give an image of that size"
+    );
+    assert!(complaint(&["hex", "to", "-", "-"], b"abc").contains("has 3; fill it up with FFh first: srec_cat - -binary "));
+}
+
+#[cfg(unix)]
+#[test]
+fn files_are_saved_behind_links_with_their_permissions() {
+    use std::os::unix::fs::{symlink, PermissionsExt};
+    let folder = folder("links");
+    let (file, link) = (folder.join("private"), folder.join("link"));
+    fs::write(&file, "old").expect("written");
+    fs::set_permissions(&file, fs::Permissions::from_mode(0o600)).expect("set");
+    symlink(&file, &link).expect("linked");
+    says(&["hex", "from", "-", word(&link)], END.as_bytes());
+    assert_eq!(fs::read(&file).expect("saved"), [0xFF; 131_072]);
+    says(&["hex", "to", "-", word(&link)], &[0xFF; 65_536]);
+    assert_eq!(fs::read(&file).expect("saved").len(), 180_252);
+    assert_eq!(fs::metadata(&file).expect("there").permissions().mode() & 0o777, 0o600);
+    assert!(fs::symlink_metadata(&link).expect("there").is_symlink());
+    assert_eq!(fs::read_dir(&folder).expect("the folder").count(), 2);
+}
+
+#[test]
+fn run_takes_and_saves_hex_by_the_names_of_files() {
+    let folder = folder("run");
+    let frames = b"06\n02 00 12 34 0F\n";
+    for (bytes, size, names) in [
+        (131_072, &[][..], ["before.hex", "after.ihex"]),
+        (65_536, &["--size", "65536"], ["before.IHEX", "after.Hex"]),
+    ] {
+        let [before, after] = names.map(|name| folder.join(name));
+        let mut array = image(bytes);
+        fs::write(&before, says(&["hex", "to", "-", "-"], &array)).expect("written");
+        says_frames(&[&["run", "--image", word(&before), "--save", word(&after)], size].concat(), frames);
+        array[0x1234] &= 0x0F;
+        assert_eq!(fs::read(&after).expect("saved"), says(&["hex", "to", "-", "-"], &array));
+        let plain = folder.join("after.bin");
+        says_frames(&[&["run", "--image", word(&before), "--save", word(&plain)], size].concat(), frames);
+        assert_eq!(fs::read(&plain).expect("saved"), array);
+        says_frames(&["run", "--image", word(&plain), "--save", word(&after)], frames);
+        assert_eq!(fs::read(&after).expect("saved"), says(&["hex", "to", "-", "-"], &array));
+    }
+}
+
+/// Runs frames, of which nothing is complained.
+fn says_frames(words: &[&str], frames: &[u8]) {
+    assert!(says(words, frames).starts_with(b"06 > FF ST 12\n02 00 12 34 0F "));
+}
+
+#[test]
+fn run_refuses_a_faulty_text_and_saves_nothing() {
+    let folder = folder("run-refused");
+    let (before, after) = (folder.join("before.hex"), folder.join("after.hex"));
+    fs::write(&before, record(4, 0, &[0, 1]) + &record(0, 0, b"data") + END).expect("written");
+    fs::write(&after, "as it was").expect("written");
+    let words = ["run", "--image", word(&before), "--save", word(&after), "--size", "65536"];
+    let wanted = "before.hex:2:4: data at 010000h to 010003h is outside the array, which has 65536 bytes; give --size 131072";
+    assert!(complaint(&words, b"06\n").ends_with(wanted));
+    assert_eq!(fs::read(&after).expect("there"), b"as it was");
+    says(&words[..5], b"06\n");
+    assert_eq!(fs::read(&after).expect("saved").len(), 360_492);
+}
+
+#[test]
+fn wrong_words_are_complained_of_with_a_remedy() {
+    for (words, remedy) in [
+        (&["hex"][..], "hex to IMAGE TEXT, or hex from TEXT IMAGE"),
+        (
+            &["hex", "into", "a", "b"],
+            "hex into: write hex to IMAGE TEXT, or hex from TEXT IMAGE",
+        ),
+        (&["hex", "to", "a"], "oxterin hex to IMAGE TEXT"),
+        (&["hex", "from"], "oxterin hex from TEXT IMAGE"),
+        (&["hex", "from", "a", "b", "c"], "c is a third one"),
+        (&["hex", "to", "a", "b", "--size", "65536"], "leave it out"),
+        (&["hex", "from", "a", "b", "--size", "1024"], "131072 or 65536"),
+        (&["hex", "from", "a", "b", "--sise", "1024"], "--help"),
+        (&["hex", "from", "no such file", "-"], "no such file: "),
+        (&["hex", "from", "-", "no such folder/x"], "a folder that can be written"),
+        (&["hex", "from", "-", "/dev/null"], "name a file"),
+    ] {
+        let complaint = complaint(words, b"");
+        assert!(complaint.contains(remedy), "{words:?}: {complaint}");
+    }
+}
+
+#[test]
+fn help_is_printed() {
+    for words in [&["hex", "--help"][..], &["hex", "to", "--help"], &["hex", "from", "-h"]] {
+        let help = String::from_utf8(says(words, b"")).expect("text");
+        for part in [
+            "Usage: oxterin hex to IMAGE TEXT",
+            "oxterin hex from TEXT IMAGE [--size BYTES]",
+            "--size BYTES",
+            ".ihex",
+        ] {
+            assert!(help.contains(part), "{part}");
+        }
+    }
+    for words in [["run", "--help"], ["serve", "--help"]] {
+        let help = String::from_utf8(says(&words, b"")).expect("text");
+        assert_eq!(help.matches(".ihex").count(), 2, "{help}");
+    }
+    let help = String::from_utf8(says(&["--help"], b"")).expect("text");
+    assert!(help.contains("\n  hex "));
+}
