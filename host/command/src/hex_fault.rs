@@ -4,18 +4,27 @@ use crate::source::Source;
 use oxterin::{HexError, HexRefusal, Size};
 use std::fmt;
 
-/// A fault of a text: line and column, the first being 1, and in words what was found there and the remedy.
+/// A fault of a text: line and column, the first being 1, the number of the refusal, and in words what was found there and the remedy.
 #[derive(Clone, Debug, PartialEq, Eq)]
 pub struct Fault<'a> {
     source: Source<'a>,
     line: usize,
     column: usize,
+    refusal: HexRefusal,
     words: String,
 }
 
 impl fmt::Display for Fault<'_> {
     fn fmt(&self, f: &mut fmt::Formatter<'_>) -> fmt::Result {
-        write!(f, "{}:{}:{}: {}", self.source.name(), self.line, self.column, self.words)
+        let number = self.refusal.number();
+        write!(
+            f,
+            "{}:{}:{}: refusal {number}: {}",
+            self.source.name(),
+            self.line,
+            self.column,
+            self.words
+        )
     }
 }
 
@@ -45,6 +54,7 @@ pub fn find<'a>(source: Source<'a>, text: &[u8], size: Size, error: HexError) ->
         source,
         line,
         column: before.len() - first + column,
+        refusal: error.refusal,
         words,
     }
 }
@@ -460,10 +470,13 @@ mod tests {
     fn a_fault_that_is_not_found_has_its_line_and_refusal() {
         let found = |refusal, place| find(Source::Input, GOOD, Size::Whole, HexError { refusal, place }).to_string();
         for refusal in HexRefusal::ALL.into_iter().filter(|refusal| *refusal != HexRefusal::End) {
-            assert_eq!(found(refusal, 37), format!("standard input:3:1: {refusal}; {ANEW}"));
+            assert_eq!(
+                found(refusal, 37),
+                format!("standard input:3:1: refusal {}: {refusal}; {ANEW}", refusal.number())
+            );
         }
         let beyond = found(HexRefusal::Checksum, usize::MAX);
-        assert_eq!(beyond, format!("standard input:7:1: {}; {ANEW}", HexRefusal::Checksum));
+        assert_eq!(beyond, format!("standard input:7:1: refusal 13: {}; {ANEW}", HexRefusal::Checksum));
     }
 
     #[test]

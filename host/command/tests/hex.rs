@@ -143,102 +143,108 @@ fn lines_that_are_no_records_are_named_with_what_they_have() {
         &[
             (
                 "\n:00000001FF\n",
-                r"2:1: an empty line, and each line is a record; delete it: sed '/^\r*$/d' <fw.hex >new.hex",
+                r"2:1: refusal 12: an empty line, and each line is a record; delete it: sed '/^\r*$/d' <fw.hex >new.hex",
             ),
             (
                 "\r\n:00000001FF\r\n",
-                r"2:1: an empty line, and each line is a record; delete it: sed '/^\r*$/d' <fw.hex >new.hex",
+                r"2:1: refusal 12: an empty line, and each line is a record; delete it: sed '/^\r*$/d' <fw.hex >new.hex",
             ),
             (
                 "; made by hand\n:00000001FF\n",
-                "2:1: the character ; stands where the colon of a record belongs; \
+                "2:1: refusal 12: the character ; stands where the colon of a record belongs; \
                  delete the line if it is no record (sed 2d <fw.hex >new.hex), or make the file anew",
             ),
             (
                 " :00000001FF\n",
-                r"2:1: a blank stands where the colon of a record belongs; delete the blanks: tr -d ' \t' <fw.hex >new.hex",
+                r"2:1: refusal 12: a blank stands where the colon of a record belongs; delete the blanks: tr -d ' \t' <fw.hex >new.hex",
             ),
-            (":0O000001FF\n", &format!("2:3: the character O is no hexadecimal digit; {ANEW}")),
+            (
+                ":0O000001FF\n",
+                &format!("2:3: refusal 12: the character O is no hexadecimal digit; {ANEW}"),
+            ),
             (
                 ":00é00001FF\n",
-                &format!("2:4: the character U+00E9 is no hexadecimal digit; {ANEW}"),
+                &format!("2:4: refusal 12: the character U+00E9 is no hexadecimal digit; {ANEW}"),
             ),
-            (":00000001F\u{1A}\n", &format!("2:11: the byte 1Ah is no hexadecimal digit; {ANEW}")),
+            (
+                ":00000001F\u{1A}\n",
+                &format!("2:11: refusal 12: the byte 1Ah is no hexadecimal digit; {ANEW}"),
+            ),
             (
                 ":00 0000 01 FF\n",
-                r"2:4: a blank is no hexadecimal digit; delete the blanks: tr -d ' \t' <fw.hex >new.hex",
+                r"2:4: refusal 12: a blank is no hexadecimal digit; delete the blanks: tr -d ' \t' <fw.hex >new.hex",
             ),
             (
                 ":00\t000001FF\n",
-                r"2:4: a tab is no hexadecimal digit; delete the blanks: tr -d ' \t' <fw.hex >new.hex",
+                r"2:4: refusal 12: a tab is no hexadecimal digit; delete the blanks: tr -d ' \t' <fw.hex >new.hex",
             ),
             (
                 ":\u{0}000000001FF\n",
-                r"2:2: NUL is no hexadecimal digit; save the file as plain ASCII, such as by tr -d '\000' <fw.hex >new.hex",
+                r"2:2: refusal 12: NUL is no hexadecimal digit; save the file as plain ASCII, such as by tr -d '\000' <fw.hex >new.hex",
             ),
             (
                 ":00000001FF\r:00000001FF\r",
-                r"2:12: CR without LF; end each line with LF or CR LF: tr -s '\r' '\n' <fw.hex >new.hex",
+                r"2:12: refusal 12: CR without LF; end each line with LF or CR LF: tr -s '\r' '\n' <fw.hex >new.hex",
             ),
             (
                 ":00000001FF\r",
-                r"2:12: CR without LF; end each line with LF or CR LF: tr -s '\r' '\n' <fw.hex >new.hex",
+                r"2:12: refusal 12: CR without LF; end each line with LF or CR LF: tr -s '\r' '\n' <fw.hex >new.hex",
             ),
             (
                 ":00000001FF\r\r\n",
-                r"2:12: CR without LF; end each line with LF or CR LF: tr -s '\r' '\n' <fw.hex >new.hex",
+                r"2:12: refusal 12: CR without LF; end each line with LF or CR LF: tr -s '\r' '\n' <fw.hex >new.hex",
             ),
             (
                 ":0000\r0001FF\n",
-                r"2:6: CR without LF stands inside a record; end each line with LF or CR LF: tr -s '\r' '\n' <fw.hex >new.hex",
+                r"2:6: refusal 12: CR without LF stands inside a record; end each line with LF or CR LF: tr -s '\r' '\n' <fw.hex >new.hex",
             ),
             (
                 ":0400:00000001FF\n",
-                "2:6: the character : stands inside a record; if a record begins there, give it a line of its own",
+                "2:6: refusal 12: the character : stands inside a record; if a record begins there, give it a line of its own",
             ),
             (
                 ":10002000000102\n:00000001FF\n",
-                &format!("2:16: the line has 15 characters, and its length byte 10 asks for 43; {ANEW}"),
+                &format!("2:16: refusal 12: the line has 15 characters, and its length byte 10 asks for 43; {ANEW}"),
             ),
             (
                 ":10002000000102",
-                "2:16: the line has 15 characters, and its length byte 10 asks for 43; the file may be cut off: fetch it again",
+                "2:16: refusal 12: the line has 15 characters, and its length byte 10 asks for 43; the file may be cut off: fetch it again",
             ),
             (
                 ":0\n:00000001FF\n",
-                &format!("2:3: the line ends before its length byte does, and a record has at least 11 characters; {ANEW}"),
+                &format!("2:3: refusal 12: the line ends before its length byte does, and a record has at least 11 characters; {ANEW}"),
             ),
             (
                 ":",
-                "2:2: the line ends before its length byte does, and a record has at least 11 characters; \
+                "2:2: refusal 12: the line ends before its length byte does, and a record has at least 11 characters; \
                  the file may be cut off: fetch it again",
             ),
             (
                 ":01002000AA3500\n:00000001FF\n",
-                &format!("2:14: the line has 15 characters, and its length byte 01 asks for 13; {ANEW}"),
+                &format!("2:14: refusal 12: the line has 15 characters, and its length byte 01 asks for 13; {ANEW}"),
             ),
             (
                 ":01002000AA35  \n:00000001FF\n",
-                "2:14: the line has 15 characters, and its length byte 01 asks for 13: \
+                "2:14: refusal 12: the line has 15 characters, and its length byte 01 asks for 13: \
                  a blank stands behind the record; delete the blanks: tr -d ' \\t' <fw.hex >new.hex",
             ),
             (
                 ":01002000AA35:00000001FF\n",
-                "2:14: the line has 24 characters, and its length byte 01 asks for 13: \
+                "2:14: refusal 12: the line has 24 characters, and its length byte 01 asks for 13: \
                  the character : stands behind the record; if a record begins there, give it a line of its own",
             ),
             (
                 ":02000001AABB98\n",
-                "2:2: type 01 (end of file) has no data, and here its length is 02; \
+                "2:2: refusal 12: type 01 (end of file) has no data, and here its length is 02; \
                  if the text ends there, write :00000001FF: sed '2s/.*/:00000001FF/' <fw.hex >new.hex",
             ),
             (
                 ":0400000400000001F7\n:00000001FF\n",
-                &format!("2:2: type 04 (extended linear address) has two bytes of data, and here its length is 04; {ANEW}"),
+                &format!("2:2: refusal 12: type 04 (extended linear address) has two bytes of data, and here its length is 04; {ANEW}"),
             ),
             (
                 ":00000004FC\n:00000001FF\n",
-                &format!("2:2: type 04 (extended linear address) has two bytes of data, and here its length is 00; {ANEW}"),
+                &format!("2:2: refusal 12: type 04 (extended linear address) has two bytes of data, and here its length is 00; {ANEW}"),
             ),
         ],
     );
@@ -251,15 +257,15 @@ fn a_wrong_checksum_is_named_beside_the_right_one() {
         &[
             (
                 ":02002000CAFE17\n:00000001FF\n",
-                &format!("2:14: the checksum is 17, and the bytes before it give 16; {ANEW}, or write 16 if they are right"),
+                &format!("2:14: refusal 13: the checksum is 17, and the bytes before it give 16; {ANEW}, or write 16 if they are right"),
             ),
             (
                 ":00000001fe\n",
-                &format!("2:10: the checksum is FE, and the bytes before it give FF; {ANEW}, or write FF if they are right"),
+                &format!("2:10: refusal 13: the checksum is FE, and the bytes before it give FF; {ANEW}, or write FF if they are right"),
             ),
             (
                 ":020000021000ED\n",
-                &format!("2:14: the checksum is ED, and the bytes before it give EC; {ANEW}, or write EC if they are right"),
+                &format!("2:14: refusal 13: the checksum is ED, and the bytes before it give EC; {ANEW}, or write EC if they are right"),
             ),
         ],
     );
@@ -272,19 +278,19 @@ fn types_that_are_not_read_have_their_names() {
         &[
             (
                 &record(2, 0, &[0x10, 0x00]),
-                "2:8: type 02 (extended segment address) is not read; convert the file first: srec_cat fw.hex -intel -o new.hex -intel",
+                "2:8: refusal 14: type 02 (extended segment address) is not read; convert the file first: srec_cat fw.hex -intel -o new.hex -intel",
             ),
             (
                 &record(3, 0, &[0, 0, 1, 0]),
-                "2:8: type 03 (start segment address) is not read; it has no data, so delete the line: sed 2d <fw.hex >new.hex",
+                "2:8: refusal 14: type 03 (start segment address) is not read; it has no data, so delete the line: sed 2d <fw.hex >new.hex",
             ),
             (
                 &record(5, 0, &[0, 0, 1, 0]),
-                "2:8: type 05 (start linear address) is not read; it has no data, so delete the line: sed 2d <fw.hex >new.hex",
+                "2:8: refusal 14: type 05 (start linear address) is not read; it has no data, so delete the line: sed 2d <fw.hex >new.hex",
             ),
             (
                 &record(0x2A, 0, &[]),
-                "2:8: type 2A is not of Intel HEX, which has 00 to 05; have the file made with types 00, 01 and 04 alone",
+                "2:8: refusal 14: type 2A is not of Intel HEX, which has 00 to 05; have the file made with types 00, 01 and 04 alone",
             ),
         ],
     );
@@ -297,17 +303,17 @@ fn data_that_does_not_fit_has_its_addresses() {
         &[
             (
                 &record(0, 0xFFF8, &[0; 16]),
-                "2:4: data at 00FFF8h to 010007h goes past the 64 KiB that begin at 000000h; \
+                "2:4: refusal 15: data at 00FFF8h to 010007h goes past the 64 KiB that begin at 000000h; \
                  split the record first: srec_cat fw.hex -intel -o new.hex -intel -Output_Block_Alignment",
             ),
             (
                 &(record(4, 0, &[0, 2]) + &record(0, 0, &[0])),
-                "3:4: data at 020000h is outside the array, which has 131072 bytes; \
+                "3:4: refusal 15: data at 020000h is outside the array, which has 131072 bytes; \
                  take a file for this part, or drop first what is outside: srec_cat fw.hex -intel -crop 0 131072 -o new.hex -intel",
             ),
             (
                 &(record(4, 0, &[0, 1]) + &record(4, 0, &[0xFF, 0xFF]) + &record(0, 0xFFFE, &[0, 0])),
-                "4:4: data at FFFFFFFEh to FFFFFFFFh is outside the array, which has 131072 bytes; \
+                "4:4: refusal 15: data at FFFFFFFEh to FFFFFFFFh is outside the array, which has 131072 bytes; \
                  take a file for this part, or drop first what is outside: srec_cat fw.hex -intel -crop 0 131072 -o new.hex -intel",
             ),
         ],
@@ -316,12 +322,12 @@ fn data_that_does_not_fit_has_its_addresses() {
     let text = record(4, 0, &[0, 1]) + &record(0, 0x20, &[0; 16]) + END;
     assert_eq!(
         fault(&folder, text.as_bytes(), "65536"),
-        "2:4: data at 010020h to 01002Fh is outside the array, which has 65536 bytes; give --size 131072"
+        "2:4: refusal 15: data at 010020h to 01002Fh is outside the array, which has 65536 bytes; give --size 131072"
     );
     let text = record(4, 0, &[0x08, 0]) + &record(0, 0x20, &[0; 16]) + END;
     assert_eq!(
         fault(&folder, text.as_bytes(), "65536"),
-        "2:4: data at 08000020h to 0800002Fh is outside the array, which has 65536 bytes; \
+        "2:4: refusal 15: data at 08000020h to 0800002Fh is outside the array, which has 65536 bytes; \
          take a file for this part, or move its data down first: srec_cat fw.hex -intel -offset -0x8000000 -o new.hex -intel"
     );
 }
@@ -333,26 +339,26 @@ fn a_text_ends_with_its_end_record() {
     faults(
         "end",
         &[
-            ("", &format!("2:1: {cut_off}")),
-            (":020000040000FA", &format!("2:16: {cut_off}")),
+            ("", &format!("2:1: refusal 16: {cut_off}")),
+            (":020000040000FA", &format!("2:16: refusal 16: {cut_off}")),
             (
                 ":00000001FF\n\n",
-                "3:1: an empty line stands behind the end record; delete it: head -n 2 <fw.hex >new.hex",
+                "3:1: refusal 16: an empty line stands behind the end record; delete it: head -n 2 <fw.hex >new.hex",
             ),
             (
                 ":00000001FF\r\n\u{1A}",
-                "3:1: the byte 1Ah stands behind the end record; delete it: head -n 2 <fw.hex >new.hex",
+                "3:1: refusal 16: the byte 1Ah stands behind the end record; delete it: head -n 2 <fw.hex >new.hex",
             ),
             (
                 ":00000001FF\n:00000001FF\n",
-                "3:1: a record stands behind the end record; if two texts were joined, join them by \
+                "3:1: refusal 16: a record stands behind the end record; if two texts were joined, join them by \
                  srec_cat one.hex -intel two.hex -intel -o new.hex -intel; else delete it: head -n 2 <fw.hex >new.hex",
             ),
         ],
     );
     assert_eq!(
         fault(&folder("empty"), b"", "131072"),
-        "1:1: the text is empty; name a file that has records"
+        "1:1: refusal 16: the text is empty; name a file that has records"
     );
 }
 
@@ -362,23 +368,23 @@ fn files_that_are_no_hex_at_all_are_known() {
     for (text, wanted) in [
         (
             &b"\xEF\xBB\xBF:00000001FF\n"[..],
-            "1:1: a byte order mark; delete it: tail -c +4 <fw.hex >new.hex",
+            "1:1: refusal 12: a byte order mark; delete it: tail -c +4 <fw.hex >new.hex",
         ),
         (
             b"\xFF\xFE:\0",
-            "1:1: a text in UTF-16, and HEX is ASCII; convert it first: iconv -f UTF-16 -t ASCII <fw.hex >new.hex",
+            "1:1: refusal 12: a text in UTF-16, and HEX is ASCII; convert it first: iconv -f UTF-16 -t ASCII <fw.hex >new.hex",
         ),
         (
             b"S00600004844521B\n",
-            "1:1: a Motorola S-record; convert the file first: srec_cat fw.hex -motorola -o new.hex -intel",
+            "1:1: refusal 12: a Motorola S-record; convert the file first: srec_cat fw.hex -motorola -o new.hex -intel",
         ),
         (
             &[0xFF; 65_536],
-            "1:1: no colon, and as many bytes as an image has; if it is one, make HEX of it first: oxterin hex to fw.hex new.hex",
+            "1:1: refusal 12: no colon, and as many bytes as an image has; if it is one, make HEX of it first: oxterin hex to fw.hex new.hex",
         ),
         (
             b"\x7FELF",
-            "1:1: the byte 7Fh stands where the colon of a record belongs; \
+            "1:1: refusal 12: the byte 7Fh stands where the colon of a record belongs; \
              delete the line if it is no record (sed 1d <fw.hex >new.hex), or make the file anew",
         ),
     ] {
@@ -391,7 +397,7 @@ fn a_fault_of_standard_input_is_one_of_its_lines() {
     let text = record(0, 0, b"data") + &record(2, 0, &[0x10, 0x00]) + END;
     assert_eq!(
         complaint(&["hex", "from", "-", "-"], text.as_bytes()),
-        "standard input:2:8: type 02 (extended segment address) is not read; convert the file first: srec_cat - -intel -o - -intel"
+        "standard input:2:8: refusal 14: type 02 (extended segment address) is not read; convert the file first: srec_cat - -intel -o - -intel"
     );
     let missing = folder("unwritten").join("out.bin");
     complaint(&["hex", "from", "-", word(&missing)], text.as_bytes());
@@ -488,7 +494,7 @@ fn run_refuses_a_faulty_text_and_saves_nothing() {
     fs::write(&before, record(4, 0, &[0, 1]) + &record(0, 0, b"data") + END).expect("written");
     fs::write(&after, "as it was").expect("written");
     let words = ["run", "--image", word(&before), "--save", word(&after), "--size", "65536"];
-    let wanted = "before.hex:2:4: data at 010000h to 010003h is outside the array, which has 65536 bytes; give --size 131072";
+    let wanted = "before.hex:2:4: refusal 15: data at 010000h to 010003h is outside the array, which has 65536 bytes; give --size 131072";
     assert!(complaint(&words, b"06\n").ends_with(wanted));
     assert_eq!(fs::read(&after).expect("there"), b"as it was");
     says(&words[..5], b"06\n");
