@@ -5,3 +5,4 @@ pub mod RoundTrip
 pub mod Case
 pub mod Refused
 pub mod Promises
+pub mod Worked
