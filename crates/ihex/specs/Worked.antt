@@ -4,7 +4,7 @@ use Prim.Native.Char.{code}
 use Prim.Native.String.{String, [], _∷_}
 use mathlib.Core.List.{List, _++_, [] as nothing, _∷_ as _then_}
 use mathlib.Core.Path.{_≡_}
-use lib.ListN.{getD, replicate}
+use lib.ListN.{replicate}
 use Rattle.ihex_write.specs.Layout.{recordLine}
 use Rattle.ihex_read.specs.Reader.{Verdict, verdict, linesIn, placeOf, judgedIn, carried}
 

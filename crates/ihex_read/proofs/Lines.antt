@@ -1,6 +1,6 @@
 -- The laws of lines: the first line of a text, where it ends and where the next one begins. Assumes nothing.
 use Prim.Native.Nat.{ℕ, zero, suc, _+_, _<_, _≤_}
-use mathlib.Core.Bool.{Bool, true, false, true≢false, false≢true, cond, _&&_, _||_, and-false, or-false, and-eq-true-iff}
+use mathlib.Core.Bool.{Bool, true, false, true≢false, cond, _&&_, _||_, and-false, or-false, and-eq-true-iff}
 use mathlib.Core.List.{List, [], _∷_}
 use mathlib.Core.Path.{_≡_, refl, sym, ap, _∙_}
 use native.Mathlib.Nat.{zero-add, suc-add, not-suc-le-zero, le-of-suc-le-suc}

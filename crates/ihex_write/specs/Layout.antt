@@ -1,7 +1,7 @@
 -- Intel HEX as it is published. A text is the list of its characters, each by its number. A record is a line of its own: a colon, then a
 -- pair of digits for each byte: the length, the address, the type, the data and the checksum. Assumes nothing.
 use Prim.Native.Nat.{ℕ, zero, suc, _+_, _-_, _*_, _/_, _%_}
-use mathlib.Core.Bool.{Bool, cond}
+use mathlib.Core.Bool.{cond}
 use mathlib.Core.List.{List, [], _∷_, _++_}
 use lib.Dec.{ltb}
 use lib.ListN.{length, getD}

@@ -1,11 +1,6 @@
+-- `ihex_read::carry_out` meets its contract: each turn walks one line on and carries it out; no line has a fault. Assumes nothing.
 use Rattle.ihex_read.proofs.carry_out.Statement.{statement}
 use Rattle.ihex_read.proofs.carry_out.Tie as tie
-use Rattle.ihex_read.proofs.carry_out.Reads as reads
-use Rattle.ihex_read.proofs.carry_out.Lts as lts
-use Rattle.ihex_read.proofs.byte_at.Reads as byte-at-reads
-use Rattle.ihex_read.proofs.next_line.Reads as next-line-reads
-use Rattle.ihex_read.proofs.obey.Reads as obey-reads
-use Rattle.ihex_read.proofs.upper_behind.Reads as upper-behind-reads
 use Prim.Native.Nat.{ℕ, _-_}
 use mathlib.Core.Bool.{false}
 use mathlib.Core.List.{List}
@@ -41,39 +36,30 @@ good c = sound _ _ _ (faultfree c)
 kind : (c : tie.After-byte-at Inv-loop μ-loop) → kindOf (lineAt (now (c .before .before .before .before .before .args .text)) (c .before .before .loop .at)) ≡ c .byte-at .result
 kind c = sym (whole-read (now (c .before .before .before .before .before .args .text)) (c .before .before .loop .at) 3 _ (sound-whole _ (good (c .before))) (omega arith) (c .byte-at .ensures .0))
 
--- src/lib.rt:259:5
 loop-holds : tie.Need-loop-holds Inv-loop μ-loop
 loop-holds c = record { walk = sets-out _ _; long = refl; so-far = refl }
 
--- src/lib.rt:260:12
 byte-at-requires : tie.Need-byte-at-requires Inv-loop μ-loop
 byte-at-requires c κs = whole-room (now (c .before .before .before .before .args .text)) (c .before .loop .at) 3 (sound-whole _ (good c)) (omega arith)
 
--- src/lib.rt:261:13
 same-length : tie.Need-same-length Inv-loop μ-loop
 same-length c = c .before .before .before .loop .inv .long
 
--- src/lib.rt:261:13
 returns : tie.Need-returns Inv-loop μ-loop
 returns c = sym (carries-no-more (c .before .before .before .loop .inv .walk) (c .before .before .before .loop .array) (c .before .before .loop-test .taken) (kind (c .before) ∙ c .if1 .taken) (c .before .before .before .before .before .before .pre)) ∙ c .before .before .before .loop .inv .so-far
 
--- src/lib.rt:263:9
 obey-requires : tie.Need-obey-requires Inv-loop μ-loop
 obey-requires c κs = (rw (c .before .before .before .before .loop .inv .long) (faultfree (c .before .before .before)), c .before .before .before .before .loop .inv .walk .small)
 
--- src/lib.rt:264:13
 next-line-requires : tie.Need-next-line-requires Inv-loop μ-loop
 next-line-requires c κs = sound-whole _ (good (c .before .before .before .before .before .before))
 
--- src/lib.rt:265:9
 upper-behind-requires : tie.Need-upper-behind-requires Inv-loop μ-loop
 upper-behind-requires c κs = (good (c .before .before .before .before .before .before .before), c .before .before .before .before .before .before .before .before .loop .inv .walk .small)
 
--- src/lib.rt:259:5
 loop-less : tie.Need-loop-less Inv-loop μ-loop
 loop-less c = omega (arith, c .before .next-line .ensures, next-inside (c .before .before .before .before .before .before .before .before .before .loop .inv .walk), next-further (c .before .before .before .before .before .before .before .before .before .loop .inv .walk) (c .before .before .before .before .before .before .before .before .loop-test .taken))
 
--- src/lib.rt:259:5
 loop-again : tie.Need-loop-again Inv-loop μ-loop
 loop-again c =
     record {
@@ -84,11 +70,9 @@ loop-again c =
       so-far = rw (c .before .next-line .ensures, c .upper-behind .ensures .0, c .before .before .before .before .obey .ensures) (sym (carries (c .before .before .before .before .before .before .before .before .before .loop .inv .walk) (c .before .before .before .before .before .before .before .before .before .loop .array) (c .before .before .before .before .before .before .before .before .loop-test .taken)) ∙ c .before .before .before .before .before .before .before .before .before .loop .inv .so-far);
     }
 
--- src/lib.rt:253:1
 same-length-2 : tie.Need-same-length-2 Inv-loop μ-loop
 same-length-2 c = c .before .loop .inv .long
 
--- src/lib.rt:253:1
 returns-2 : tie.Need-returns-2 Inv-loop μ-loop
 returns-2 c = absurd (no-end (c .before .loop .inv .walk) (c .loop-test .left) (c .before .before .before .before .pre))
 

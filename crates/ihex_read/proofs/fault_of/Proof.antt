@@ -1,10 +1,7 @@
+-- `ihex_read::fault_of` meets its contract: the tests in the order of their numbers, on the numbers of a whole record. Assumes nothing.
 use borrow.Author.Needs.{needs}
 use Rattle.ihex_read.proofs.fault_of.Statement.{statement}
 use Rattle.ihex_read.proofs.fault_of.Tie as tie
-use Rattle.ihex_read.proofs.fault_of.Reads as reads
-use Rattle.ihex_read.proofs.fault_of.Lts as lts
-use Rattle.ihex_read.proofs.byte_at.Reads as byte-at-reads
-use Rattle.ihex_read.proofs.record_at.Reads as record-at-reads
 use Prim.Native.Nat.{ℕ, _+_, _*_}
 use mathlib.Core.Bool.{true}
 use mathlib.Core.Path.{_≡_, refl, sym, _∙_}
@@ -34,72 +31,34 @@ address c =
     let e = whole (c .before .before .before .before .before .before .before .before) in
     rw (whole-read (now (c .before .before .before .before .before .before .before .before .before .before .before .before .args .text)) (c .before .before .before .before .before .before .before .before .before .before .before .before .args .at) 1 _ e (omega arith) (c .before .byte-at3 .ensures .0), whole-read (now (c .before .before .before .before .before .before .before .before .before .before .before .before .args .text)) (c .before .before .before .before .before .before .before .before .before .before .before .before .args .at) 2 _ e (omega arith) (c .byte-at4 .ensures .0))
 
--- src/lib.rt:132:9
-record-at-requires : tie.Need-record-at-requires
-record-at-requires c κs = search needs
-
--- src/lib.rt:134:9
 returns : tie.Need-returns
 unfolding faultOf
 returns c = rw (← c .before .before .record-at .ensures .0, c .if1 .taken)
 
--- src/lib.rt:136:9
 byte-at-requires : tie.Need-byte-at-requires
 byte-at-requires c κs = whole-room (now (c .before .before .before .before .args .text)) (c .before .before .before .before .args .at) 0 (whole c) (omega arith)
 
--- src/lib.rt:137:9
 byte-at-requires-2 : tie.Need-byte-at-requires-2
 byte-at-requires-2 c κs = whole-room (now (c .before .before .before .before .before .args .text)) (c .before .before .before .before .before .args .at) 3 (whole (c .before)) (omega arith)
 
--- src/lib.rt:139:9
 returns-2 : tie.Need-returns-2
 returns-2 c = rw (judgement (c .before) _ refl, c .if2 .taken)
 
--- src/lib.rt:142:9
 returns-3 : tie.Need-returns-3
 returns-3 c = rw (judgement (c .before .before .before) _ refl, c .before .before .if2 .left, ne-eqb _ _ (c .if3 .taken))
 
--- src/lib.rt:145:9
 returns-4 : tie.Need-returns-4
 returns-4 c = rw (judgement (c .before .before .before .before) _ refl, c .before .before .before .if2 .left, eq-eqb _ _ (c .before .if3 .left), c .if4 .taken)
 
--- src/lib.rt:147:19
 byte-at-requires-3 : tie.Need-byte-at-requires-3
 byte-at-requires-3 c κs = whole-room (now (c .before .before .before .before .before .before .before .before .before .before .args .text)) (c .before .before .before .before .before .before .before .before .before .before .args .at) 1 (whole (c .before .before .before .before .before .before)) (omega arith)
 
--- src/lib.rt:147:19
-mul-address : tie.Need-mul-address
-mul-address c = search needs
-
--- src/lib.rt:147:48
 byte-at-requires-4 : tie.Need-byte-at-requires-4
 byte-at-requires-4 c κs = whole-room (now (c .before .before .before .before .before .before .before .before .before .before .before .args .text)) (c .before .before .before .before .before .before .before .before .before .before .before .args .at) 2 (whole (c .before .before .before .before .before .before .before)) (omega arith)
 
--- src/lib.rt:147:19
-add-address : tie.Need-add-address
-add-address c = search needs
-
--- src/lib.rt:148:25
-add-past : tie.Need-add-past
-add-past c = search needs
-
--- src/lib.rt:148:53
-mul-past : tie.Need-mul-past
-mul-past c = search needs
-
--- src/lib.rt:148:53
-add-past-2 : tie.Need-add-past-2
-add-past-2 c = search needs
-
--- src/lib.rt:148:53
-add-past-3 : tie.Need-add-past-3
-add-past-3 c = search needs
-
--- src/lib.rt:150:9
 returns-5 : tie.Need-returns-5
 returns-5 c = rw (judgement (c .before .before .before .before .before .before .before) _ (address (c .before)), c .before .before .before .before .before .before .if2 .left, eq-eqb _ _ (c .before .before .before .before .if3 .left), c .before .before .before .if4 .left, c .if5 .taken)
 
--- src/lib.rt:128:1
 returns-6 : tie.Need-returns-6
 returns-6 c = rw (judgement (c .before .before .before .before .before .before .before) _ (address (c .before)), c .before .before .before .before .before .before .if2 .left, eq-eqb _ _ (c .before .before .before .before .if3 .left), c .before .before .before .if4 .left, c .if5 .left)
 
@@ -107,7 +66,7 @@ pub fault-of-spec : {M : Type 1} → statement M
 fault-of-spec =
     tie.close
     (tie.spec
-    record-at-requires
+    (λ c κs. search needs)
     returns
     byte-at-requires
     byte-at-requires-2
@@ -115,12 +74,12 @@ fault-of-spec =
     returns-3
     returns-4
     byte-at-requires-3
-    mul-address
+    (λ c. search needs)
     byte-at-requires-4
-    add-address
-    add-past
-    mul-past
-    add-past-2
-    add-past-3
+    (λ c. search needs)
+    (λ c. search needs)
+    (λ c. search needs)
+    (λ c. search needs)
+    (λ c. search needs)
     returns-5
     returns-6)

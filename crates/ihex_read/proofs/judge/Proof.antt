@@ -1,12 +1,6 @@
+-- `ihex_read::judge` meets its contract: each turn walks one line on. Assumes nothing.
 use Rattle.ihex_read.proofs.judge.Statement.{statement}
 use Rattle.ihex_read.proofs.judge.Tie as tie
-use Rattle.ihex_read.proofs.judge.Reads as reads
-use Rattle.ihex_read.proofs.judge.Lts as lts
-use Rattle.ihex_read.proofs.byte_at.Reads as byte-at-reads
-use Rattle.ihex_read.proofs.end_at.Reads as end-at-reads
-use Rattle.ihex_read.proofs.fault_of.Reads as fault-of-reads
-use Rattle.ihex_read.proofs.next_line.Reads as next-line-reads
-use Rattle.ihex_read.proofs.upper_behind.Reads as upper-behind-reads
 use Prim.Native.Nat.{_-_}
 use mathlib.Core.Path.{_≡_, sym, _∙_}
 use native.Mathlib.Omega.{arith}
@@ -31,49 +25,38 @@ good c = sym (c .before .fault-of .ensures) ∙ c .if1 .left
 kind : (c : tie.After-byte-at Inv-loop μ-loop) → kindOf (lineAt (now (c .before .before .before .before .before .before .before .args .text)) (c .before .before .before .before .before .loop .at)) ≡ c .byte-at .result
 kind c = sym (whole-read (now (c .before .before .before .before .before .before .before .args .text)) (c .before .before .before .before .before .loop .at) 3 _ (sound-whole _ (sound _ _ _ (good (c .before .before)))) (omega arith) (c .byte-at .ensures .0))
 
--- src/lib.rt:205:5
 loop-holds : tie.Need-loop-holds Inv-loop μ-loop
 loop-holds c = sets-out _ _
 
--- src/lib.rt:206:13
 fault-of-requires : tie.Need-fault-of-requires Inv-loop μ-loop
 fault-of-requires c κs = (c .loop-test .taken, c .before .loop .inv .small)
 
--- src/lib.rt:208:13
 returns : tie.Need-returns Inv-loop μ-loop
 returns c = rw (c .before .fault-of .ensures) (stops (c .before .before .before .loop .inv) (c .before .before .loop-test .taken) (λ z. c .if1 .taken (c .before .fault-of .ensures ∙ z)))
 
--- src/lib.rt:213:13
 next-line-requires : tie.Need-next-line-requires Inv-loop μ-loop
 next-line-requires c κs = sound-whole _ (sound _ _ _ (good c))
 
--- src/lib.rt:214:12
 byte-at-requires : tie.Need-byte-at-requires Inv-loop μ-loop
 byte-at-requires c κs = whole-room (now (c .before .before .before .before .before .before .args .text)) (c .before .before .before .before .loop .at) 3 (sound-whole _ (sound _ _ _ (good (c .before)))) (omega arith)
 
--- src/lib.rt:215:13
 end-at-requires : tie.Need-end-at-requires Inv-loop μ-loop
 end-at-requires c κs = rw (c .before .before .next-line .ensures) (next-inside (c .before .before .before .before .before .before .loop .inv))
 
--- src/lib.rt:215:13
 returns-2 : tie.Need-returns-2 Inv-loop μ-loop
 returns-2 c = c .end-at .ensures ∙ rw (c .before .before .before .next-line .ensures) (ends-at (c .before .before .before .before .before .before .before .loop .inv) (c .before .before .before .before .before .before .loop-test .taken) (good (c .before .before .before .before)) (kind (c .before .before) ∙ c .before .if2 .taken))
 
--- src/lib.rt:217:9
 upper-behind-requires : tie.Need-upper-behind-requires Inv-loop μ-loop
 upper-behind-requires c κs = (sound _ _ _ (good (c .before .before .before)), c .before .before .before .before .before .before .loop .inv .small)
 
--- src/lib.rt:205:5
 loop-less : tie.Need-loop-less Inv-loop μ-loop
 loop-less c = omega (arith, c .before .before .before .next-line .ensures, next-inside (c .before .before .before .before .before .before .before .loop .inv), next-further (c .before .before .before .before .before .before .before .loop .inv) (c .before .before .before .before .before .before .loop-test .taken))
 
--- src/lib.rt:205:5
 loop-again : tie.Need-loop-again Inv-loop μ-loop
 loop-again c =
     rw (c .before .before .before .next-line .ensures, c .upper-behind .ensures .0)
     (goes-on (c .before .before .before .before .before .before .before .loop .inv) (c .before .before .before .before .before .before .loop-test .taken) (good (c .before .before .before .before)) (λ e. c .before .if2 .left (sym (kind (c .before .before)) ∙ e)) (rw (c .upper-behind .ensures .0) at (c .upper-behind .ensures .1)))
 
--- src/lib.rt:198:1
 returns-3 : tie.Need-returns-3 Inv-loop μ-loop
 returns-3 c = runs-out (c .before .loop .inv) (c .loop-test .left)
 

@@ -1,10 +1,8 @@
+-- `ihex_read::lay` meets its contract: each turn lays one byte more. Assumes nothing.
 use Rattle.ihex_read.proofs.lay.Statement.{statement}
 use Rattle.ihex_read.proofs.lay.Tie as tie
-use Rattle.ihex_read.proofs.lay.Reads as reads
-use Rattle.ihex_read.proofs.lay.Lts as lts
-use Rattle.ihex_read.proofs.byte_at.Reads as byte-at-reads
 use Prim.Native.Nat.{_+_, _-_, _<_, _≤_}
-use mathlib.Core.Path.{_≡_, sym, _∙_}
+use mathlib.Core.Path.{_≡_}
 use native.Mathlib.Omega.{arith}
 use denote.Ref.{now}
 use lib.ListN.{length, drop}
@@ -43,55 +41,39 @@ small c =
     let l = whole-small (drop (c .before .before .before .before .before .before .args .at) (now (c .before .before .before .before .before .before .args .text))) (c .before .before .before .before .before .before .pre .0) (c .before .before .loop .i - c .before .before .before .before .before .before .args .start + 4) (inside (c .before)) in
     rw (c .byte-at2 .ensures .0 l) l
 
--- src/lib.rt:214:23
 byte-at-requires : tie.Need-byte-at-requires Inv-loop μ-loop
 byte-at-requires c κs = whole-room (now (c .before .before .args .text)) (c .before .before .args .at) 0 (c .before .before .pre .0) (omega arith)
 
--- src/lib.rt:214:15
 add-end : tie.Need-add-end Inv-loop μ-loop
 add-end c = omega (arith, c .byte-at .ensures .1)
 
--- src/lib.rt:216:5
 loop-holds : tie.Need-loop-holds Inv-loop μ-loop
 loop-holds c = begins _ _ _ _ (omega arith)
 
--- src/lib.rt:217:38
 sub-byte-at : tie.Need-sub-byte-at Inv-loop μ-loop
 sub-byte-at c = c .before .loop .inv .low
 
--- src/lib.rt:217:38
 add-byte-at : tie.Need-add-byte-at Inv-loop μ-loop
 add-byte-at c = let l = c .before .loop .inv .low in omega arith
 
--- src/lib.rt:217:20
 byte-at-requires-2 : tie.Need-byte-at-requires-2 Inv-loop μ-loop
 byte-at-requires-2 c κs = whole-room (now (c .before .before .before .before .before .args .text)) (c .before .before .before .before .before .args .at) (c .before .loop .i - c .before .before .before .before .before .args .start + 4) (c .before .before .before .before .before .pre .0) (inside c)
 
--- src/lib.rt:217:20
 cast-array : tie.Need-cast-array Inv-loop μ-loop
 cast-array c = omega (arith, small c)
 
--- src/lib.rt:217:9
 slice-write-array : tie.Need-slice-write-array Inv-loop μ-loop
 slice-write-array c = omega (arith, fits (c .before), same-long (c .before .before .loop .inv))
 
--- src/lib.rt:218:9
 add-i : tie.Need-add-i Inv-loop μ-loop
 add-i c = omega (arith, fits (c .before))
 
--- src/lib.rt:216:5
-loop-less : tie.Need-loop-less Inv-loop μ-loop
-loop-less c = omega arith
-
--- src/lib.rt:216:5
 loop-again : tie.Need-loop-again Inv-loop μ-loop
 loop-again c = goes-on (c .before .before .loop .inv) _ (c .before .loop-test .taken) (fits (c .before)) (whole-read (now (c .before .before .before .before .before .before .args .text)) (c .before .before .before .before .before .before .args .at) (c .before .before .loop .i - c .before .before .before .before .before .before .args .start + 4) _ (c .before .before .before .before .before .before .pre .0) (inside (c .before)) (c .byte-at2 .ensures .0))
 
--- src/lib.rt:208:1
 same-length : tie.Need-same-length Inv-loop μ-loop
 same-length c = same-long (c .before .loop .inv)
 
--- src/lib.rt:208:1
 returns : tie.Need-returns Inv-loop μ-loop
 returns c = rw (long (c .before .before)) at (ends (c .before .loop .inv) (c .loop-test .left))
 
@@ -110,7 +92,7 @@ lay-spec =
     cast-array
     slice-write-array
     add-i
-    loop-less
+    (λ c. omega arith)
     loop-again
     same-length
     returns)

@@ -1,9 +1,7 @@
+-- `ihex_read::next_line` meets its contract: behind a whole record comes nothing, LF, or CR and LF. Assumes nothing.
 use borrow.Author.Needs.{needs}
 use Rattle.ihex_read.proofs.next_line.Statement.{statement}
 use Rattle.ihex_read.proofs.next_line.Tie as tie
-use Rattle.ihex_read.proofs.next_line.Reads as reads
-use Rattle.ihex_read.proofs.next_line.Lts as lts
-use Rattle.ihex_read.proofs.byte_at.Reads as byte-at-reads
 use Prim.Native.Nat.{_+_, _*_, _≤_}
 use mathlib.Core.Bool.{true}
 use mathlib.Core.Path.{_≡_}
@@ -20,43 +18,27 @@ far : (c : tie.After-byte-at) → ((c .before .before .args .at + (2 * c .byte-a
     × (placeOf 1 (drop (c .before .before .args .at) (now (c .before .before .args .text))) ≡ 2 * c .byte-at .result + 11 + placeOf 1 (drop (c .before .before .args .at + (2 * c .byte-at .result + 11)) (now (c .before .before .args .text))))
 far c = whole-far (now (c .before .before .args .text)) (c .before .before .args .at) (c .byte-at .result) (c .before .before .pre) (c .byte-at .ensures .0 (whole-small (drop (c .before .before .args .at) (now (c .before .before .args .text))) (c .before .before .pre) 0 (omega arith)))
 
--- src/lib.rt:145:25
 byte-at-requires : tie.Need-byte-at-requires
 byte-at-requires c κs = whole-room (now (c .before .args .text)) (c .before .args .at) 0 (c .before .pre) (omega arith)
 
--- src/lib.rt:145:21
-mul-end : tie.Need-mul-end
-mul-end c = search needs
-
--- src/lib.rt:145:21
-add-end : tie.Need-add-end
-add-end c = search needs
-
--- src/lib.rt:145:15
 add-end-2 : tie.Need-add-end-2
 add-end-2 c = let w = far c in omega arith
 
--- src/lib.rt:147:9
 returns : tie.Need-returns
 returns c = let w = far (c .before) in omega (arith, ending-none (now (c .before .before .before .args .text)) (c .before .before .before .args .at + (2 * c .before .byte-at .result + 11)) (omega arith))
 
--- src/lib.rt:149:8
 shared-slice-read-if2 : tie.Need-shared-slice-read-if2
 shared-slice-read-if2 c = let w = far (c .before .before) in omega arith
 
--- src/lib.rt:149:26
 add-result : tie.Need-add-result
 add-result c = let w = far (c .before .before .before) in omega arith
 
--- src/lib.rt:149:43
 add-result-2 : tie.Need-add-result-2
 add-result-2 c = let w = far (c .before .before .before) in let e = ending-CR (now (c .before .before .before .before .before .args .text)) (c .before .before .before .before .before .args .at + (2 * c .before .before .before .byte-at .result + 11)) (omega arith) (w .1) (ne-eqb _ _ (c .if2 .left)) in omega arith
 
--- src/lib.rt:141:1
 returns-2 : tie.Need-returns-2
 returns-2 c = let w = far (c .before .before .before) in omega (arith, ending-LF (now (c .before .before .before .before .before .args .text)) (c .before .before .before .before .before .args .at + (2 * c .before .before .before .byte-at .result + 11)) (omega arith) (eq-eqb _ _ (c .if2 .taken)))
 
--- src/lib.rt:141:1
 returns-3 : tie.Need-returns-3
 returns-3 c = let w = far (c .before .before .before) in let e = ending-CR (now (c .before .before .before .before .before .args .text)) (c .before .before .before .before .before .args .at + (2 * c .before .before .before .byte-at .result + 11)) (omega arith) (w .1) (ne-eqb _ _ (c .if2 .left)) in omega arith
 
@@ -65,8 +47,8 @@ next-line-spec =
     tie.close
     (tie.spec
     byte-at-requires
-    mul-end
-    add-end
+    (λ c. search needs)
+    (λ c. search needs)
     add-end-2
     returns
     shared-slice-read-if2

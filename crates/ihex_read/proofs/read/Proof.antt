@@ -1,11 +1,7 @@
+-- `ihex_read::read` meets its contract: the size, the judgement, and only then the array. Assumes nothing.
 use borrow.Author.Needs.{needs}
 use Rattle.ihex_read.proofs.read.Statement.{statement}
 use Rattle.ihex_read.proofs.read.Tie as tie
-use Rattle.ihex_read.proofs.read.Reads as reads
-use Rattle.ihex_read.proofs.read.Lts as lts
-use Rattle.ihex_read.proofs.carry_out.Reads as carry-out-reads
-use Rattle.ihex_read.proofs.judge.Reads as judge-reads
-use Rattle.sizes.proofs.is_array.Reads as is-array-reads
 use mathlib.Core.Bool.{true}
 use mathlib.Core.Path.{_≡_, sym, ap, _∙_}
 use borrow.Author.Tests.{not-true, not-false}
@@ -24,31 +20,15 @@ allowed c = sym (c .before .is-array .ensures) ∙ not-false _ (c .if1 .left)
 refused : (c : tie.After-judge) → judgedIn (now (c .before .before .before .before .before .args .text)) (length (now (c .before .before .before .before .before .args .array))) .refusal ≡ c .judge .result .refusal
 refused c = sym (ap (λ (r : Reading). r .refusal) (c .judge .ensures))
 
--- src/lib.rt:276:9
-is-array-requires : tie.Need-is-array-requires
-is-array-requires c κs = search needs
-
--- src/lib.rt:277:9
 returns : tie.Need-returns
 returns c = size-refused (now (c .before .before .before .before .args .text)) (now (c .before .before .before .before .args .array)) (sym (c .before .is-array .ensures) ∙ not-true _ (c .if1 .taken))
 
--- src/lib.rt:282:9
-judge-requires : tie.Need-judge-requires
-judge-requires c κs = search needs
-
--- src/lib.rt:284:9
 carry-out-requires : tie.Need-carry-out-requires
 carry-out-requires c κs = refused (c .before .before .before) ∙ c .before .if2 .taken
 
--- src/lib.rt:272:1
-same-length : tie.Need-same-length
-same-length c = search needs
-
--- src/lib.rt:272:1
 returns-2 : tie.Need-returns-2
 returns-2 c = (c .before .before .before .before .before .before .judge .ensures ∙ judgement (now (c .before .before .before .before .before .before .before .before .before .before .before .args .text)) _ (allowed (c .before .before .before .before .before .before .before)), c .before .before .carry-out .ensures ∙ text-read (now (c .before .before .before .before .before .before .before .before .before .before .before .args .text)) (now (c .before .before .before .before .before .before .before .before .before .before .before .args .array)) (allowed (c .before .before .before .before .before .before .before)) (refused (c .before .before .before .before .before .before) ∙ c .before .before .before .before .if2 .taken))
 
--- src/lib.rt:272:1
 returns-3 : tie.Need-returns-3
 returns-3 c = (c .before .before .judge .ensures ∙ judgement (now (c .before .before .before .before .before .before .before .args .text)) _ (allowed (c .before .before .before)), text-refused (now (c .before .before .before .before .before .before .before .args .text)) (now (c .before .before .before .before .before .before .before .args .array)) (allowed (c .before .before .before)) (λ e. c .if2 .left (sym (refused (c .before .before)) ∙ e)))
 
@@ -56,10 +36,10 @@ pub read-spec : {M : Type 1} → statement M
 read-spec =
     tie.close
     (tie.spec
-    is-array-requires
+    (λ c κs. search needs)
     returns
-    judge-requires
+    (λ c κs. search needs)
     carry-out-requires
-    same-length
+    (λ c. search needs)
     returns-2
     returns-3)

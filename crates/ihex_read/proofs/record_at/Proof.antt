@@ -1,12 +1,7 @@
+-- `ihex_read::record_at` meets its contract: what stands in the text and what the line says are the same. Assumes nothing.
 use borrow.Author.Needs.{needs}
 use Rattle.ihex_read.proofs.record_at.Statement.{statement}
 use Rattle.ihex_read.proofs.record_at.Tie as tie
-use Rattle.ihex_read.proofs.record_at.Reads as reads
-use Rattle.ihex_read.proofs.record_at.Lts as lts
-use Rattle.ihex_read.proofs.byte_at.Reads as byte-at-reads
-use Rattle.ihex_read.proofs.is_end.Reads as is-end-reads
-use Rattle.ihex_read.proofs.is_pair.Reads as is-pair-reads
-use Rattle.ihex_read.proofs.tally.Reads as tally-reads
 use Prim.Native.Nat.{ℕ, _+_, _<_}
 use mathlib.Core.Bool.{false≢true}
 use mathlib.Core.Path.{_≡_, sym, ap, _∙_}
@@ -28,67 +23,18 @@ known c = c .byte-at .ensures .0 (paired c)
 small : (c : tie.After-byte-at) → c .byte-at .result < 256
 small c = rw (known c) (paired c)
 
--- src/lib.rt:111:16
-sub-left : tie.Need-sub-left
-sub-left c = search needs
-
--- src/lib.rt:113:9
 returns : tie.Need-returns
 returns c = (sym (too-short (drop (c .before .before .args .at) (now (c .before .before .args .text))) (omega (arith, length-drop (c .before .before .args .at) (now (c .before .before .args .text))))), λ e. absurd (false≢true e))
 
--- src/lib.rt:118:9
-is-pair-requires : tie.Need-is-pair-requires
-is-pair-requires c κs = search needs
-
--- src/lib.rt:119:9
 returns-2 : tie.Need-returns-2
 returns-2 c = (sym (no-length (drop (c .before .before .before .before .args .at) (now (c .before .before .before .before .args .text))) (sym (c .before .is-pair .ensures) ∙ not-true _ (c .if2 .taken))), λ e. absurd (false≢true e))
 
--- src/lib.rt:124:9
-byte-at-requires : tie.Need-byte-at-requires
-byte-at-requires c κs = search needs
-
--- src/lib.rt:125:15
-mul-if3 : tie.Need-mul-if3
-mul-if3 c = search needs
-
--- src/lib.rt:125:15
-add-if3 : tie.Need-add-if3
-add-if3 c = search needs
-
--- src/lib.rt:126:9
 returns-3 : tie.Need-returns-3
 returns-3 c = (sym (too-short (drop (c .before .before .before .before .before .before .args .at) (now (c .before .before .before .before .before .before .args .text))) (omega (arith, length-drop (c .before .before .before .before .before .before .args .at) (now (c .before .before .before .before .before .before .args .text)), known (c .before)))), λ e. absurd (false≢true e))
 
--- src/lib.rt:131:33
-add-tally : tie.Need-add-tally
-add-tally c = search needs
-
--- src/lib.rt:131:9
 tally-requires : tie.Need-tally-requires
 tally-requires c κs = (omega arith, omega (arith, small (c .before)))
 
--- src/lib.rt:133:17
-shared-slice-read-t11 : tie.Need-shared-slice-read-t11
-shared-slice-read-t11 c = search needs
-
--- src/lib.rt:133:68
-mul-is-end : tie.Need-mul-is-end
-mul-is-end c = search needs
-
--- src/lib.rt:133:68
-add-is-end : tie.Need-add-is-end
-add-is-end c = search needs
-
--- src/lib.rt:133:62
-add-is-end-2 : tie.Need-add-is-end-2
-add-is-end-2 c = search needs
-
--- src/lib.rt:133:49
-is-end-requires : tie.Need-is-end-requires
-is-end-requires c κs = search needs
-
--- src/lib.rt:106:1
 returns-4 : tie.Need-returns-4
 returns-4 c =
     let e = found (now (c .before .before .before .before .before .before .before .before .before .before .args .text)) (c .before .before .before .before .before .before .before .before .before .before .args .at) _ _ _ (known (c .before .before .before .before .before)) (c .before .before .before .tally .ensures .0) (c .is-end .ensures) in
@@ -98,19 +44,19 @@ pub record-at-spec : {M : Type 1} → statement M
 record-at-spec =
     tie.close
     (tie.spec
-    sub-left
+    (λ c. search needs)
     returns
-    is-pair-requires
+    (λ c κs. search needs)
     returns-2
-    byte-at-requires
-    mul-if3
-    add-if3
+    (λ c κs. search needs)
+    (λ c. search needs)
+    (λ c. search needs)
     returns-3
-    add-tally
+    (λ c. search needs)
     tally-requires
-    shared-slice-read-t11
-    mul-is-end
-    add-is-end
-    add-is-end-2
-    is-end-requires
+    (λ c. search needs)
+    (λ c. search needs)
+    (λ c. search needs)
+    (λ c. search needs)
+    (λ c κs. search needs)
     returns-4)

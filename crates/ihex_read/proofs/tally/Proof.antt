@@ -1,10 +1,7 @@
+-- `ihex_read::tally` meets its contract: each turn takes one pair more. Assumes nothing.
 use Rattle.ihex_read.proofs.tally.Statement.{statement}
 use Rattle.ihex_read.proofs.tally.Tie as tie
-use Rattle.ihex_read.proofs.tally.Reads as reads
-use Rattle.ihex_read.proofs.tally.Lts as lts
-use Rattle.ihex_read.proofs.byte_at.Reads as byte-at-reads
-use Rattle.ihex_read.proofs.is_pair.Reads as is-pair-reads
-use Prim.Native.Nat.{_+_, _-_, _*_, _≤_}
+use Prim.Native.Nat.{_-_, _*_, _≤_}
 use mathlib.Core.Bool.{true, and-eq-true-iff}
 use mathlib.Core.Path.{_≡_, refl, sym, _∙_}
 use native.Mathlib.Numerals.{add-one}
@@ -20,32 +17,13 @@ Inv-loop text at n whole₀ total₀ i₀ whole total i = (i ≤ n) × (whole �
 abbrev μ-loop : tie.MeasureT-loop
 μ-loop text at n whole₀ total₀ i₀ whole total i = n - i
 
--- src/lib.rt:82:5
 loop-holds : tie.Need-loop-holds Inv-loop μ-loop
 unfolding pairs sumOf
 loop-holds c = (omega arith, refl, (λ e. refl), omega arith)
 
--- src/lib.rt:83:25
-is-pair-requires : tie.Need-is-pair-requires Inv-loop μ-loop
-is-pair-requires c κs = omega arith
-
--- src/lib.rt:84:18
-byte-at-requires : tie.Need-byte-at-requires Inv-loop μ-loop
-byte-at-requires c κs = omega arith
-
--- src/lib.rt:84:9
 add-total : tie.Need-add-total Inv-loop μ-loop
 add-total c = omega (arith, c .byte-at .ensures .1)
 
--- src/lib.rt:85:9
-add-i : tie.Need-add-i Inv-loop μ-loop
-add-i c = omega arith
-
--- src/lib.rt:82:5
-loop-less : tie.Need-loop-less Inv-loop μ-loop
-loop-less c = omega arith
-
--- src/lib.rt:82:5
 loop-again : tie.Need-loop-again Inv-loop μ-loop
 unfolding pairs sumOf
 loop-again c = (
@@ -57,7 +35,6 @@ loop-again c = (
   omega (arith, c .byte-at .ensures .1),
 )
 
--- src/lib.rt:74:1
 returns : tie.Need-returns Inv-loop μ-loop
 returns c = let e : c .before .loop .i ≡ c .before .before .before .args .n = omega arith in (rw e at (c .before .loop .inv .1), rw e at (c .before .loop .inv .2))
 
@@ -68,10 +45,10 @@ tally-spec =
     Inv-loop
     μ-loop
     loop-holds
-    is-pair-requires
-    byte-at-requires
+    (λ c κs. omega arith)
+    (λ c κs. omega arith)
     add-total
-    add-i
-    loop-less
+    (λ c. omega arith)
+    (λ c. omega arith)
     loop-again
     returns)

@@ -1,9 +1,7 @@
+-- `ihex_read::upper_behind` meets its contract: a record of type 04 has two bytes. Assumes nothing.
 use borrow.Author.Needs.{needs}
 use Rattle.ihex_read.proofs.upper_behind.Statement.{statement}
 use Rattle.ihex_read.proofs.upper_behind.Tie as tie
-use Rattle.ihex_read.proofs.upper_behind.Reads as reads
-use Rattle.ihex_read.proofs.upper_behind.Lts as lts
-use Rattle.ihex_read.proofs.byte_at.Reads as byte-at-reads
 use Prim.Native.Nat.{_<_}
 use mathlib.Core.Path.{_≡_, sym, _∙_}
 use native.Mathlib.Omega.{arith}
@@ -21,27 +19,15 @@ two c =
     sym (whole-byte (drop (c .before .before .before .args .at) (now (c .before .before .before .args .text))) e 0 (omega arith)) ∙
     sound-upper _ (c .before .before .before .pre .0) (sym (whole-read (now (c .before .before .before .args .text)) (c .before .before .before .args .at) 3 _ e (omega arith) (c .before .byte-at .ensures .0)) ∙ c .if1 .taken)
 
--- src/lib.rt:173:8
 byte-at-requires : tie.Need-byte-at-requires
 byte-at-requires c κs = whole-room (now (c .before .args .text)) (c .before .args .at) 3 (sound-whole _ (c .before .pre .0)) (omega arith)
 
--- src/lib.rt:174:9
 byte-at-requires-2 : tie.Need-byte-at-requires-2
 byte-at-requires-2 c κs = whole-room (now (c .before .before .before .args .text)) (c .before .before .before .args .at) 4 (sound-whole _ (c .before .before .before .pre .0)) (omega arith)
 
--- src/lib.rt:174:9
-mul-result : tie.Need-mul-result
-mul-result c = search needs
-
--- src/lib.rt:174:38
 byte-at-requires-3 : tie.Need-byte-at-requires-3
 byte-at-requires-3 c κs = whole-room (now (c .before .before .before .before .args .text)) (c .before .before .before .before .args .at) 5 (sound-whole _ (c .before .before .before .before .pre .0)) (omega (arith, two (c .before)))
 
--- src/lib.rt:174:9
-add-result : tie.Need-add-result
-add-result c = search needs
-
--- src/lib.rt:168:1
 returns : tie.Need-returns
 returns c =
     let e = sound-whole _ (c .before .before .before .before .before .pre .0) in
@@ -49,7 +35,6 @@ returns c =
     let low : byteAt (drop (c .before .before .before .before .before .args .at) (now (c .before .before .before .before .before .args .text))) 5 < 256 = whole-small (drop (c .before .before .before .before .before .args .at) (now (c .before .before .before .before .before .args .text))) e 5 (omega (arith, two (c .before .before))) in
     (rw (← whole-read (now (c .before .before .before .before .before .args .text)) (c .before .before .before .before .before .args .at) 3 _ e (omega arith) (c .before .before .before .byte-at .ensures .0), c .before .before .if1 .taken, whole-byte (drop (c .before .before .before .before .before .args .at) (now (c .before .before .before .before .before .args .text))) e 4 (omega arith), whole-byte (drop (c .before .before .before .before .before .args .at) (now (c .before .before .before .before .before .args .text))) e 5 (omega (arith, two (c .before .before))), c .before .byte-at2 .ensures .0 high, c .byte-at3 .ensures .0 low), omega (arith, c .before .byte-at2 .ensures .0 high, c .byte-at3 .ensures .0 low))
 
--- src/lib.rt:168:1
 returns-2 : tie.Need-returns-2
 returns-2 c =
     let e = sound-whole _ (c .before .before .before .pre .0) in
@@ -61,8 +46,8 @@ upper-behind-spec =
     (tie.spec
     byte-at-requires
     byte-at-requires-2
-    mul-result
+    (λ c. search needs)
     byte-at-requires-3
-    add-result
+    (λ c. search needs)
     returns
     returns-2)

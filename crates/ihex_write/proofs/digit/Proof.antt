@@ -1,4 +1,4 @@
--- `ihex::write::digit` meets its contract: below ten a decimal digit, from ten on a letter. Assumes nothing.
+-- `ihex_write::digit` meets its contract: below ten a decimal digit, from ten on a letter. Assumes nothing.
 use borrow.Author.Needs.{needs}
 use borrow.Author.Tests.{lt-ltb, le-ltb}
 use Rattle.ihex_write.proofs.digit.Statement.{statement}

@@ -1,4 +1,4 @@
--- `ihex::write::put_byte` meets its contract: its two stores are the pair of digits. Assumes nothing.
+-- `ihex_write::put_byte` meets its contract: its two stores are the pair of digits. Assumes nothing.
 use native.Mathlib.Numerals.{add-one}
 use native.Mathlib.Omega.{arith}
 use borrow.Author.Needs.{needs}

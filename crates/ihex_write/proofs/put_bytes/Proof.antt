@@ -1,4 +1,4 @@
--- `ihex::write::put_bytes` meets its contract: each turn writes one byte more. Assumes nothing.
+-- `ihex_write::put_bytes` meets its contract: each turn writes one byte more. Assumes nothing.
 use Prim.Native.Nat.{_+_, _-_, _<_, _≤_}
 use mathlib.Core.Path.{_≡_, sym}
 use native.Mathlib.Omega.{arith}

@@ -1,4 +1,4 @@
--- `ihex::write::put_record` meets its contract: the pieces of the record, stored one behind the other. Assumes nothing.
+-- `ihex_write::put_record` meets its contract: the pieces of the record, stored one behind the other. Assumes nothing.
 use Prim.Native.Nat.{_*_, _≤_}
 use mathlib.Core.Path.{_≡_}
 use native.Mathlib.Omega.{arith}

@@ -1,4 +1,4 @@
--- `ihex::write::put_row` meets its contract: where 64 KiB begin its two records, and elsewhere its one, are the row. Assumes nothing.
+-- `ihex_write::put_row` meets its contract: where 64 KiB begin its two records, and elsewhere its one, are the row. Assumes nothing.
 use mathlib.Core.Path.{_≡_}
 use native.Mathlib.Omega.{arith}
 use borrow.Author.Needs.{needs}

@@ -1,4 +1,4 @@
--- `ihex::write::put_text` meets its contract: each turn writes one row more, and the end's line follows. Assumes nothing.
+-- `ihex_write::put_text` meets its contract: each turn writes one row more, and the end's line follows. Assumes nothing.
 use Prim.Native.Nat.{_-_}
 use mathlib.Core.Path.{_∙_}
 use native.Mathlib.Omega.{arith}

@@ -1,4 +1,4 @@
--- `ihex::write::write` meets its contract: what is refused is refused first, and the size alone says how long the text is. Assumes nothing.
+-- `ihex_write::write` meets its contract: what is refused is refused first, and the size alone says how long the text is. Assumes nothing.
 use mathlib.Core.Bool.{true, false}
 use mathlib.Core.Path.{_≡_, sym, _∙_}
 use native.Mathlib.Omega.{arith}
