@@ -8,6 +8,7 @@ use Rattle.sheet.specs.declared.device.Device.{Device}
 use Rattle.part.specs.Frame.{Lent, frame}
 use Rattle.packing.specs.Packing.{packed, isRecord, deviceOf, isSettings, settingsOf}
 use Rattle.oxterin.specs.Face.{Handed, isCall, callOf, left, told, faced}
+use Rattle.oxterin.specs.Hex.{textOut, textIn}
 
 pub record Promises : Type 0 where
   -- words that stand for a call are answered with what the part's frame gives, and nothing else
@@ -21,3 +22,6 @@ pub record Promises : Type 0 where
   -- the words of a record say no more than the record, and the settings are their words
   pub same-words : (ws : List ℕ) → isRecord ws ≡ true → packed (deviceOf ws) ≡ ws
   pub same-durations : (ws : List ℕ) → isSettings ws ≡ true → settingsOf ws .ticks ≡ ws
+  -- a text that is not written or not read, for whatever number, leaves the lent memory as it was
+  pub text-kept : (array text word : List ℕ) → textOut array text word .number ≢ 0 → textOut array text word .memory ≡ text
+  pub array-kept : (text array word : List ℕ) → textIn text array word .number ≢ 0 → textIn text array word .memory ≡ array
