@@ -10,31 +10,19 @@ use Rattle.sizes.specs.Sizes.{isArray}
 use Rattle.ihex_read.specs.declared.Reading.{Reading}
 use Rattle.ihex_write.specs.Layout.{colon, LF, CR, byteAt, lengthOf, addressOf, kindOf, dataAt, asked, sumOf}
 
--- a line runs to LF or to the end of the text; one CR straight before that LF belongs to the ending
+-- one character more at the front of the first line
 abbrev pub headed : ℕ → List (List ℕ) → List (List ℕ)
 headed c [] = (c ∷ []) ∷ []
 headed c (line ∷ lines) = (c ∷ line) ∷ lines
 
--- a character, whether LF follows it, and the lines of what follows it
+-- the same, unless it belongs to an ending: LF ends a line, and one CR straight before LF is part of that ending
 unfoldable pub behind : ℕ → Bool → List (List ℕ) → List (List ℕ)
-behind c turned lines = cond (eqb c LF) ([] ∷ lines) (cond (eqb c CR && turned) lines (headed c lines))
+behind c beforeLF lines = cond (eqb c LF) ([] ∷ lines) (cond (eqb c CR && beforeLF) lines (headed c lines))
 
+-- the lines of a text, without their endings: a line runs to LF or to the end of the text
 unfoldable pub linesIn : List ℕ → List (List ℕ)
 linesIn [] = []
 linesIn (c ∷ text) = behind c (eqb (getD text 0 0) LF) (linesIn text)
-
--- the line that begins at a place of the text
-abbrev pub first : List (List ℕ) → List ℕ
-first [] = []
-first (line ∷ lines) = line
-
-abbrev pub lineAt : List ℕ → ℕ → List ℕ
-lineAt text at = first (linesIn (drop at text))
-
--- a line ends where this follows it: nothing, LF, or CR and LF
-unfoldable pub isEnd : List ℕ → Bool
-isEnd [] = true
-isEnd (c ∷ text) = eqb c LF || (eqb c CR && eqb (getD text 0 0) LF)
 
 -- the place of the character at which line k begins: straight behind k times LF, or the text's end
 unfoldable pub placeOf : ℕ → List ℕ → ℕ
@@ -107,7 +95,7 @@ judged size upper k (line ∷ lines) =
     (cond (eqb (kindOf line) 1) (ended (suc k) lines) (judged size (upperBehind upper line) (suc k) lines))
     (verdict (faultOf size upper line) k)
 
--- a data record puts its bytes in their places
+-- a data record puts its bytes in their places; the others do nothing to the array
 abbrev pub laid : ℕ → List ℕ → Cell
 laid start line = stored (range start (start + lengthOf line)) (λ k. dataAt line (k - start))
 
@@ -133,3 +121,16 @@ readingOf text size = cond (not (isArray size)) (reading 18 0) (reading (judgedI
 -- the lent array afterwards
 unfoldable pub arrayOf : List ℕ → List ℕ → List ℕ
 arrayOf text array = cond (eqb (readingOf text (length array) .refusal) 0) (carried 0 (linesIn text) array) array
+
+-- For what stands below `read`: the line that begins at a place of the text
+abbrev pub first : List (List ℕ) → List ℕ
+first [] = []
+first (line ∷ lines) = line
+
+abbrev pub lineAt : List ℕ → ℕ → List ℕ
+lineAt text at = first (linesIn (drop at text))
+
+-- and what stands where a line ends: nothing, LF, or CR and LF
+unfoldable pub isEnd : List ℕ → Bool
+isEnd [] = true
+isEnd (c ∷ text) = eqb c LF || (eqb c CR && eqb (getD text 0 0) LF)
