@@ -1,7 +1,7 @@
 -- The reader does not see case: each of its definitions says of a line in upper case what it says of the line. So texts whose lines
 -- differ only in case are alike. Assumes nothing.
 use Prim.Native.Nat.{ℕ, zero, suc, _+_, _-_, _*_, _<_, _≤_}
-use mathlib.Core.Bool.{Bool, true, false}
+use mathlib.Core.Bool.{Bool, true, false, cond, _&&_}
 use mathlib.Core.List.{List, [], _∷_, map}
 use mathlib.Core.Path.{_≡_, refl, sym, ap, _∙_}
 use native.Mathlib.Decide.{decLt}
@@ -12,8 +12,8 @@ use lib.ListN.{length, getD, length-map, List·getD-map}
 use Rattle.cells.specs.Range.{range}
 use Rattle.cells.proofs.Runs.{range-in, range-before, range-behind, range-of}
 use Rattle.sizes.specs.Sizes.{isArray}
-use Rattle.ihex_write.specs.Layout.{colon, digitOf, byteAt, sumOf}
-use Rattle.ihex_read.specs.Reader.{linesIn, pairs, isWhole, faultOf, upperBehind, ended, judged, judgedIn, obeyed, carried, readingOf, arrayOf}
+use Rattle.ihex_write.specs.Layout.{colon, LF, CR, digitOf, byteAt, sumOf}
+use Rattle.ihex_read.specs.Reader.{headed, behind, linesIn, placeOf, pairs, isWhole, faultOf, upperBehind, ended, judged, judgedIn, obeyed, carried, readingOf, arrayOf}
 use Rattle.ihex.specs.Promises.{upperCase, capitals}
 
 -- a small letter and its capital are the same digit, or none
@@ -35,9 +35,9 @@ line-case f h line i = ap f (List·getD-map upperCase line i 0) ∙ by (getD lin
     by c true e = rw e (h c (range-of 0x61 0x7B c e .0) (range-of 0x61 0x7B c e .1))
     by c false e = rw e
 
--- the colon is no letter, so the test for it does not see case
-colon-case : (line : List ℕ) → eqb (getD (map upperCase line) 0 0) colon ≡ eqb (getD line 0 0) colon
-colon-case line = line-case (λ (c : ℕ). eqb c colon) (λ c p q. rw (ne-eqb (c - 0x20) colon (omega arith), ne-eqb c colon (omega arith))) line 0
+-- a test for a character below the letters, as the colon, LF and CR are, does not see case
+test-case : (n : ℕ) → n < 0x41 → (line : List ℕ) (i : ℕ) → eqb (getD (map upperCase line) i 0) n ≡ eqb (getD line i 0) n
+test-case n l = line-case (λ (c : ℕ). eqb c n) (λ c p q. rw (ne-eqb (c - 0x20) n (omega arith), ne-eqb c n (omega arith)))
 
 -- nor do the bytes
 byte-case : (line : List ℕ) (k : ℕ) → byteAt (map upperCase line) k ≡ byteAt line k
@@ -59,7 +59,7 @@ sum-case line (suc n) = rw (sum-case line n, byte-case line n)
 -- nor does the shape of a record
 whole-case : (line : List ℕ) → isWhole (map upperCase line) ≡ isWhole line
 unfolding isWhole
-whole-case line = rw (colon-case line, length-map line upperCase, byte-case line 0, pairs-case line (byteAt line 0 + 5))
+whole-case line = rw (test-case colon (omega arith) line 0, length-map line upperCase, byte-case line 0, pairs-case line (byteAt line 0 + 5))
 
 -- nor does the refusal of a line
 fault-case : (size upper : ℕ) (line : List ℕ) → faultOf size upper (map upperCase line) ≡ faultOf size upper line
@@ -126,3 +126,41 @@ alike text other e array =
     let judgement : judgedIn text (length array) ≡ judgedIn other (length array) = same (judged (length array) 0 0) (judged-case (length array) 0 0) text other e in
     let refusal : readingOf text (length array) .refusal ≡ readingOf other (length array) .refusal = refused-alike text other (length array) judgement in
     (refusal, judgement, rw (refusal, same (λ (lines : List (List ℕ)). carried 0 lines array) (λ lines. carried-case 0 lines array) text other e))
+
+-- A text in upper case has its lines in upper case.
+headed-case : (c : ℕ) (lines : List (List ℕ)) → headed (upperCase c) (map (map upperCase) lines) ≡ map (map upperCase) (headed c lines)
+headed-case c [] = refl
+headed-case c (line ∷ lines) = refl
+
+behind-case : (c : ℕ) (b : Bool) (lines : List (List ℕ)) → behind (upperCase c) b (map (map upperCase) lines) ≡ map (map upperCase) (behind c b lines)
+unfolding behind
+behind-case c b lines =
+    rw (test-case LF (omega arith) (c ∷ []) 0, test-case CR (omega arith) (c ∷ []) 0) (by (eqb c LF) (eqb c CR && b))
+  where
+    by : (f r : Bool) → cond f ([] ∷ map (map upperCase) lines) (cond r (map (map upperCase) lines) (headed (upperCase c) (map (map upperCase) lines)))
+        ≡ map (map upperCase) (cond f ([] ∷ lines) (cond r lines (headed c lines)))
+    by true r = refl
+    by false true = refl
+    by false false = headed-case c lines
+
+lines-case : (text : List ℕ) → linesIn (map upperCase text) ≡ capitals text
+unfolding linesIn
+lines-case [] = refl
+lines-case (c ∷ text) =
+    rw (lines-case text, test-case LF (omega arith) text 0) (behind-case c (eqb (getD text 0 0) LF) (linesIn text))
+
+-- and they begin where they began
+place-case : (k : ℕ) (text : List ℕ) → placeOf k (map upperCase text) ≡ placeOf k text
+unfolding placeOf
+place-case zero text = refl
+place-case (suc k) [] = refl
+place-case (suc k) (c ∷ text) = rw (test-case LF (omega arith) (c ∷ []) 0, place-case k text, place-case (suc k) text)
+
+-- texts that differ in case alone get the same answer, place and all
+pub same-place : (text other : List ℕ) → map upperCase text ≡ map upperCase other → (size : ℕ) → readingOf text size ≡ readingOf other size
+unfolding readingOf
+same-place text other e size =
+    let capital : capitals text ≡ capitals other = sym (lines-case text) ∙ (ap linesIn e ∙ lines-case other) in
+    let judgement : judgedIn text size ≡ judgedIn other size = same (judged size 0 0) (judged-case size 0 0) text other capital in
+    let place : (k : ℕ) → placeOf k text ≡ placeOf k other = λ k. sym (place-case k text) ∙ (ap (placeOf k) e ∙ place-case k other) in
+    rw (judgement, place (judgedIn other size .line))

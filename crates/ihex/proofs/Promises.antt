@@ -5,7 +5,7 @@ use Rattle.ihex.specs.Promises.{Promises}
 use Rattle.ihex.proofs.Endings.{endings}
 use Rattle.ihex.proofs.Texts.{behind}
 use Rattle.ihex.proofs.RoundTrip.{round-trip, handed-on}
-use Rattle.ihex.proofs.Case.{alike}
+use Rattle.ihex.proofs.Case.{alike, same-place}
 use Rattle.ihex.proofs.Refused.{refused-output, refused-array}
 
 pub promises : Promises
@@ -18,5 +18,6 @@ promises =
       refused-output = refused-output;
       refused-array = refused-array;
       alike = alike;
+      same-place = same-place;
       endings = endings;
     }

@@ -48,6 +48,8 @@ pub record Promises : Type 0 where
       → (readingOf text (length array) .refusal ≡ readingOf other (length array) .refusal)
       × (judgedIn text (length array) ≡ judgedIn other (length array))
       × (arrayOf text array ≡ arrayOf other array)
+  -- texts that differ in case alone get the same answer, place and all
+  pub same-place : (text other : List ℕ) → map upperCase text ≡ map upperCase other → (size : ℕ) → readingOf text size ≡ readingOf other size
   -- a line ends with LF or with CR LF, and the last ending may be missing: the lines are the same
   pub endings : (line text : List ℕ) → plain line ≡ true
       → (linesIn (line ++ LF ∷ text) ≡ line ∷ linesIn text)

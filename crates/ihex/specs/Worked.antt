@@ -42,8 +42,8 @@ pub record Worked : Type 0 where
   pub wrong-sum-first : judgement ":020000021000EB\n" ≡ verdict 13 0
   -- 14: an extended segment address
   pub other-type : judgement ":020000021000EC\n" ≡ verdict 14 0
-  -- 15: two bytes at FFFFh, one byte at 10000h; a record without data is good anywhere
-  pub past-64-KiB : judgement ":02FFFF00000000\n" ≡ verdict 15 0
+  -- 15: two bytes at FFFFh, though the large array has both; one byte at 10000h of the small one; a record without data is good anywhere
+  pub past-64-KiB : judgedIn (characters ":02FFFF00000000\n") 131072 ≡ verdict 15 0
   pub outside-array : judgement ":020000040001F9\n:0100000000FF\n:00000001FF\n" ≡ verdict 15 1
   pub no-data : judgement ":020000040005F5\n:0000000000\n:00000001FF\n" ≡ verdict 0 0
   -- 16: nothing at all; no end record, said of the text's end; an LF behind the end record, said of that LF

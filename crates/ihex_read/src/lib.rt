@@ -27,7 +27,8 @@ ghost use Rattle.ihex_read.specs.Reader.{
   arrayOf,
 };
 
-// The number of the refusal, 0 if there is none, and the place of the character at which the faulty record begins.
+// The number of the refusal, 0 if there is none, and the place of the character at which the faulty record begins: for text behind the
+// end record the first character there, for a missing end record the end of the text.
 pub struct Reading {
     pub refusal: u8,
     pub place: usize,

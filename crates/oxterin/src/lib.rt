@@ -200,7 +200,7 @@ pub extern "C" fn oxterin_hex_write(array: &[u8], text: &mut [u8], characters: &
 }
 
 // Intel HEX text into an array: the number of the refusal, 0 if the text was read. The word becomes the place where the faulty record
-// begins.
+// begins, or the text behind the end record, or where an end record is missing.
 #[no_mangle]
 pub extern "C" fn oxterin_hex_read(text: &[u8], array: &mut [u8], place: &mut [u64]) -> u64
     ensures { λ r. ⌜

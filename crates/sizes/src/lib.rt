@@ -1,4 +1,4 @@
-// The sizes that an array may have: the one place that lists them. It knows a length, and nothing of flash or text.
+// The sizes that an array may have: the one crate that lists them. It knows a length, and nothing of flash or text.
 ghost use mathlib.Core.Path.{_≡_};
 ghost use Rattle.sizes.specs.Sizes.{isArray};
 
