@@ -37,7 +37,7 @@ pub struct Reading {
 // What is found of a record: whether it is whole, and what its bytes add up to.
 struct Found {
     whole: bool,
-    total: usize,
+    total: u32,
 }
 
 // Whether a character is a digit, in either case.
@@ -79,11 +79,11 @@ fn tally(text: &[u8], at: usize, n: usize) -> Found
     ensures { λ r. ⌜ (r .whole ≡ true → r .total ≡ sumOf (drop at (now (text .entry))) n) ⌝ }
 {
     let mut whole = true;
-    let mut total = 0;
+    let mut total = 0u32;
     let mut i = 0;
     while i < n {
         whole = whole & is_pair(text, at, i);
-        total += byte_at(text, at, i);
+        total += byte_at(text, at, i) as u32;
         i += 1;
     }
     Found { whole, total }

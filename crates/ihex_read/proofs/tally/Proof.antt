@@ -47,6 +47,7 @@ tally-spec =
     loop-holds
     (λ c κs. omega arith)
     (λ c κs. omega arith)
+    (λ c. omega (arith, c .byte-at .ensures .1))
     add-total
     (λ c. omega arith)
     (λ c. omega arith)
