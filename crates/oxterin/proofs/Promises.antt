@@ -13,7 +13,7 @@ use Rattle.packing.proofs.Records.{same-words, same-durations, is-record, same-
 use Rattle.oxterin.specs.Face.{Handed, isCall, callOf, told, unread, faced}
 use Rattle.oxterin.specs.Promises.{Promises}
 use Rattle.oxterin.proofs.Words.{record-read}
-use Rattle.oxterin.proofs.Hex.{text-kept, array-kept}
+use Rattle.hexwords.proofs.Kept.{text-kept, array-kept}
 
 -- the two ways of a call
 read : (h : Handed) (m : Lent) → isCall h ≡ true → faced h m ≡ told (frame (callOf h) m)

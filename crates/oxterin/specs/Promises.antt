@@ -8,7 +8,7 @@ use Rattle.sheet.specs.declared.device.Device.{Device}
 use Rattle.part.specs.Frame.{Lent, frame}
 use Rattle.packing.specs.Packing.{packed, isRecord, deviceOf, isSettings, settingsOf}
 use Rattle.oxterin.specs.Face.{Handed, isCall, callOf, left, told, faced}
-use Rattle.oxterin.specs.Hex.{textOut, textIn}
+use Rattle.hexwords.specs.Words.{textOut, textIn}
 
 pub record Promises : Type 0 where
   -- words that stand for a call are answered with what the part's frame gives, and nothing else

@@ -1,5 +1,7 @@
 // The face to C and Rust: plain numbers and slices, each function a thin call. Words that stand for nothing, such as a slice of another
 // length, a flag that is neither 0 nor 1, or a mode that does not exist, are answered with 255, and then nothing changes.
+use hexwords::read_text;
+use hexwords::write_text;
 use lent::look::look;
 use lent::look::look_start;
 use packing::UNREAD;
@@ -26,7 +28,7 @@ ghost use lib.ListN.{length};
 ghost use Rattle.part.specs.Frame as spec;
 ghost use Rattle.part.specs.Frame.{lent, replyOf};
 ghost use Rattle.oxterin.specs.Face as face;
-ghost use Rattle.oxterin.specs.Hex.{spoken, textOut, textIn};
+ghost use Rattle.hexwords.specs.Words.{spoken, textOut, textIn};
 ghost use Rattle.packing.specs.Packing.{packed, isSettings, answerOf, numberIf, writtenIf};
 
 // The version of this face.
@@ -191,12 +193,7 @@ pub extern "C" fn oxterin_hex_write(array: &[u8], text: &mut [u8], characters: &
         textOut (now (array .entry)) (now (text .entry)) (now (characters .entry))
         ⌝ }
 {
-    if characters.len() == 1 {
-        let written = ihex_write::write(array, text);
-        characters[0] = written.characters as u64;
-        return wide(written.refusal);
-    }
-    UNREAD
+    write_text(array, text, characters)
 }
 
 // Intel HEX text into an array: the number of the refusal, 0 if the text was read. The word becomes the place where the faulty record
@@ -207,10 +204,5 @@ pub extern "C" fn oxterin_hex_read(text: &[u8], array: &mut [u8], place: &mut [u
         spoken r (now (place .exit)) (now (array .exit)) ≡ textIn (now (text .entry)) (now (array .entry)) (now (place .entry))
         ⌝ }
 {
-    if place.len() == 1 {
-        let reading = ihex_read::read(text, array);
-        place[0] = reading.place as u64;
-        return wide(reading.refusal);
-    }
-    UNREAD
+    read_text(text, array, place)
 }

@@ -1,11 +1,11 @@
--- `oxterin::oxterin_hex_read` meets its contract: one word, or 255. Assumes nothing.
+-- `hexwords::read_text` meets its contract: one word, or 255. Assumes nothing.
 use borrow.Author.Needs.{needs}
-use Rattle.oxterin.proofs.oxterin_hex_read.Statement.{statement}
-use Rattle.oxterin.proofs.oxterin_hex_read.Tie as tie
+use Rattle.hexwords.proofs.read_text.Statement.{statement}
+use Rattle.hexwords.proofs.read_text.Tie as tie
 use borrow.Author.Tests.{eq-eqb, ne-eqb}
 use denote.Ref.{now}
-use Rattle.oxterin.specs.Hex.{textIn}
-use Rattle.oxterin.proofs.Hex.{one-word}
+use Rattle.hexwords.specs.Words.{textIn}
+use Rattle.hexwords.proofs.Kept.{one-word}
 
 returns : tie.Need-returns
 unfolding textIn
@@ -15,8 +15,8 @@ returns-2 : tie.Need-returns-2
 unfolding textIn
 returns-2 c = rw (ne-eqb _ 1 (c .if1 .left))
 
-pub oxterin-hex-read-spec : {M : Type 1} → statement M
-oxterin-hex-read-spec =
+pub read-text-spec : {M : Type 1} → statement M
+read-text-spec =
     tie.close
     (tie.spec
     (λ c κs. search needs)

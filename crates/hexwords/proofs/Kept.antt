@@ -7,7 +7,7 @@ use mathlib.Core.Path.{_≡_, refl}
 use native.Mathlib.Omega.{arith}
 use lib.ListN.{length, set}
 use Rattle.ihex.proofs.Refused.{refused-output, refused-array}
-use Rattle.oxterin.specs.Hex.{Spoken, spoken, isWord, textOut, textIn}
+use Rattle.hexwords.specs.Words.{Spoken, spoken, isWord, textOut, textIn}
 
 pub one-word : (word : List ℕ) (new : ℕ) → length word ≡ 1 → set word 0 new ≡ new ∷ []
 one-word [] new e = absurd (omega arith)

@@ -1,11 +1,11 @@
--- `oxterin::oxterin_hex_write` meets its contract: one word, or 255. Assumes nothing.
+-- `hexwords::write_text` meets its contract: one word, or 255. Assumes nothing.
 use borrow.Author.Needs.{needs}
-use Rattle.oxterin.proofs.oxterin_hex_write.Statement.{statement}
-use Rattle.oxterin.proofs.oxterin_hex_write.Tie as tie
+use Rattle.hexwords.proofs.write_text.Statement.{statement}
+use Rattle.hexwords.proofs.write_text.Tie as tie
 use borrow.Author.Tests.{eq-eqb, ne-eqb}
 use denote.Ref.{now}
-use Rattle.oxterin.specs.Hex.{textOut}
-use Rattle.oxterin.proofs.Hex.{one-word}
+use Rattle.hexwords.specs.Words.{textOut}
+use Rattle.hexwords.proofs.Kept.{one-word}
 
 returns : tie.Need-returns
 unfolding textOut
@@ -15,8 +15,8 @@ returns-2 : tie.Need-returns-2
 unfolding textOut
 returns-2 c = rw (ne-eqb _ 1 (c .if1 .left))
 
-pub oxterin-hex-write-spec : {M : Type 1} → statement M
-oxterin-hex-write-spec =
+pub write-text-spec : {M : Type 1} → statement M
+write-text-spec =
     tie.close
     (tie.spec
     (λ c κs. search needs)
