@@ -268,8 +268,9 @@ static inline oxterin_refusal oxterin_write_hex(const uint8_t *array, size_t arr
 }
 
 /* Reads Intel HEX text into the array: records of types 00, 01 and 04 in either case, ended by LF or CR LF. Later records win, and bytes
- * that none names stay. `place` becomes the place, counted from 0, of the character at which the faulty record begins, the text's length
- * if the end record is missing; 0 if the text is accepted or the array's length is refused. */
+ * that none names stay. `place` becomes the place, counted from 0, of the character at which the faulty record begins; for refusal 16 that
+ * of the first character behind the end record's line, or, if there is no end record, the end of the text, which is its length; 0 if the
+ * text is accepted or the array's length is refused. */
 static inline oxterin_refusal oxterin_read_hex(const uint8_t *text, size_t text_length, uint8_t *array, size_t array_length,
                                                size_t *place) {
     uint64_t told[1] = {0};

@@ -61,8 +61,8 @@ fn convert(from: &str, to: &str, turn: impl Fn(Source<'_>, &[u8]) -> Result<Vec<
 }
 
 /// The text of an image, which nothing but its length can make impossible.
-pub fn text(source: Source<'_>, image: &[u8]) -> Result<Vec<u8>, Complaint> {
-    hex_text(image).map_err(|_| image::wrong_length(source, image))
+fn text(source: Source<'_>, image: &[u8]) -> Result<Vec<u8>, Complaint> {
+    hex_text(image).map_err(|_| image::wrong_length(source, image, None))
 }
 
 /// The array that a text fills, every other byte being FFh.

@@ -1,30 +1,21 @@
 //! Where in a refused HEX text the fault is, and what to do about it. The library has refused the text and named the record; this looks at
 //! that record once more, for the column and for words. It never decides whether a text is accepted.
-use crate::source::Source;
+use crate::source::{fresh, Source};
 use oxterin::{HexError, HexRefusal, Size};
 use std::fmt;
 
-/// A fault of a text: line and column, the first being 1, the number of the refusal, and in words what was found there and the remedy.
+/// A fault of a text: line and column, the first being 1, and in words the refusal, what was found there and the remedy.
 #[derive(Clone, Debug, PartialEq, Eq)]
 pub struct Fault<'a> {
     source: Source<'a>,
     line: usize,
     column: usize,
-    refusal: HexRefusal,
     words: String,
 }
 
 impl fmt::Display for Fault<'_> {
     fn fmt(&self, f: &mut fmt::Formatter<'_>) -> fmt::Result {
-        let number = self.refusal.number();
-        write!(
-            f,
-            "{}:{}:{}: refusal {number}: {}",
-            self.source.name(),
-            self.line,
-            self.column,
-            self.words
-        )
+        write!(f, "{}:{}:{}: {}", self.source.name(), self.line, self.column, self.words)
     }
 }
 
@@ -49,12 +40,14 @@ pub fn find<'a>(source: Source<'a>, text: &[u8], size: Size, error: HexError) ->
         HexRefusal::End => Some(look.end()),
         HexRefusal::Room | HexRefusal::ArrayLength => None,
     };
-    let (column, words) = found.unwrap_or_else(|| (1, format!("{}; {ANEW}", error.refusal)));
+    let (column, words) = match found {
+        Some((column, words)) => (column, format!("refusal {}: {words}", error.refusal.number())),
+        None => (1, format!("{}; {ANEW}", error.refusal)),
+    };
     Fault {
         source,
         line,
         column: before.len() - first + column,
-        refusal: error.refusal,
         words,
     }
 }
@@ -65,8 +58,6 @@ const LF: u8 = b'\n';
 const ANEW: &str = "the file was damaged or edited by hand: make it anew";
 /// The end record.
 const END: &str = ":00000001FF";
-/// How two texts are joined.
-const JOIN: &str = "srec_cat one.hex -intel two.hex -intel -o new.hex -intel";
 /// The column of a record's length byte.
 const LENGTH: usize = 2;
 /// The column of its address.
@@ -163,6 +154,10 @@ impl Look<'_> {
     /// What a whole file is that does not begin with a colon, if that can be told.
     fn no_hex(&self) -> Option<String> {
         match self.rest {
+            rest if Size::of_bytes(rest.len()).is_some() => Some(format!(
+                "no colon, and as many bytes as an image has; if it is one, make HEX of it first: {}",
+                self.source.turned("oxterin hex to", "hex")
+            )),
             [0xEF, 0xBB, 0xBF, ..] => Some(format!("a byte order mark; delete it: {}", self.filtered("tail -c +4"))),
             [0xFF, 0xFE, ..] | [0xFE, 0xFF, ..] => Some(format!(
                 "a text in UTF-16, and HEX is ASCII; convert it first: {}",
@@ -171,10 +166,6 @@ impl Look<'_> {
             [b'S', b'0'..=b'9', ..] => Some(format!(
                 "a Motorola S-record; convert the file first: {}",
                 self.source.converted("-motorola", "-intel", "hex")
-            )),
-            rest if Size::of_bytes(rest.len()).is_some() => Some(format!(
-                "no colon, and as many bytes as an image has; if it is one, make HEX of it first: {}",
-                self.source.turned("oxterin hex to", "hex")
             )),
             _ => None,
         }
@@ -252,10 +243,10 @@ impl Look<'_> {
         let kind = bytes(self.record())?[3];
         let words = match kind {
             0x00 | 0x01 | 0x04 => return None,
-            0x02 => format!(
-                "type 02 (extended segment address) is not read; convert the file first: {}",
-                self.source.converted("-intel", "-intel", "hex")
-            ),
+            0x02 => {
+                let command = self.source.converted("-intel", "-intel", "hex");
+                self.advised("type 02 (extended segment address) is not read", "", "convert the file", &command)
+            }
             0x03 => self.start("03 (start segment address)"),
             0x05 => self.start("05 (start linear address)"),
             _ => format!("type {kind:02X} is not of Intel HEX, which has 00 to 05; have the file made with types 00, 01 and 04 alone"),
@@ -287,32 +278,62 @@ impl Look<'_> {
             _ => format!("data at {} to {}", address(first), address(end.checked_sub(1)?)),
         };
         if end > block + 65_536 {
-            let remedy = self.source.converted("-intel", "-intel -Output_Block_Alignment", "hex");
-            let words = format!(
-                "{data} goes past the 64 KiB that begin at {}; split the record first: {remedy}",
-                address(block)
-            );
-            return Some((ADDRESS, words));
+            let fault = format!("{data} goes past the 64 KiB that begin at {}", address(block));
+            let command = self.source.converted("-intel", "-intel -Output_Block_Alignment", "hex");
+            return Some((ADDRESS, self.advised(&fault, "", "split the record", &command)));
         }
-        let remedy = match Size::ALL.into_iter().find(|size| end <= size.bytes() as u64) {
+        let fault = format!("{data} is outside the array, which has {} bytes", self.size.bytes());
+        let words = match Size::ALL.into_iter().find(|size| end <= size.bytes() as u64) {
             Some(size) if size.bytes() <= self.size.bytes() => return None,
-            Some(size) => format!("give --size {}", size.bytes()),
-            None => self.too_far(block),
+            Some(size) => format!("{fault}; give --size {}", size.bytes()),
+            None => self.too_far(&fault, block),
         };
-        let words = format!("{data} is outside the array, which has {} bytes; {remedy}", self.size.bytes());
         Some((ADDRESS, words))
     }
 
-    /// What can be done about addresses that no array has.
-    fn too_far(&self, block: u64) -> String {
-        let (words, filter) = match self.data_before() {
-            false => ("or move its data down first", format!("-intel -offset -0x{block:X}")),
-            true => ("or drop first what is outside", format!("-intel -crop 0 {}", self.size.bytes())),
+    /// The fault of addresses that no array has, with its remedy: the data moves down by this block if none lies below it, and what is
+    /// outside can be dropped if something is inside.
+    fn too_far(&self, fault: &str, block: u64) -> String {
+        let instead = "take a file for this part";
+        let lowest = self.data().into_iter().min().unwrap_or(block);
+        let (deed, filter) = match lowest {
+            _ if lowest >= block => ("move its data down", format!("-intel -offset -0x{block:X}")),
+            _ if lowest < self.size.bytes() as u64 => ("drop what is outside", format!("-intel -crop 0 {}", self.size.bytes())),
+            _ => return format!("{fault}; {instead}"),
         };
-        format!(
-            "take a file for this part, {words}: {}",
-            self.source.converted(&filter, "-intel", "hex")
-        )
+        let command = self.source.converted(&filter, "-intel", "hex");
+        self.advised(fault, &format!("{instead}, or "), deed, &command)
+    }
+
+    /// A fault with a deed of srec_cat against it, and what might be done instead. srec_cat writes an end record in any case and leaves out
+    /// what it does not know, so a text that is not whole is said to be so first.
+    fn advised(&self, fault: &str, instead: &str, deed: &str, command: &str) -> String {
+        match self.doubt() {
+            None => format!("{fault}; {instead}{deed} first: {command}"),
+            Some((doubt, care)) => format!("{fault}, and {doubt}: {instead}{care} before you {deed}: {command}"),
+        }
+    }
+
+    /// Why the text may not be whole, and what is to be done about that, unless it ends with its end record and nothing else is in between.
+    fn doubt(&self) -> Option<(String, &'static str)> {
+        const CARE: &str = "see what that is";
+        let mut numbered = lines(self.rest).zip(self.line..);
+        while let Some((line, number)) = numbered.next() {
+            if let Some([0, _, _, 1, _]) = bytes(line).as_deref() {
+                let behind = numbered.next()?.1;
+                return Some((
+                    format!("line {behind} stands behind the end record, where srec_cat does not read"),
+                    CARE,
+                ));
+            }
+            if !line.is_empty() && !line.starts_with(b":") {
+                return Some((
+                    format!("line {number}, which does not begin with a colon, is left out by srec_cat"),
+                    CARE,
+                ));
+            }
+        }
+        Some(("the text has no end record, so it may be cut off".to_string(), "fetch it again"))
     }
 
     /// The upper part of the addresses, as the last record of type 04 has set it.
@@ -327,10 +348,20 @@ impl Look<'_> {
         set.unwrap_or(0)
     }
 
-    /// Whether a record before this one has data.
-    fn data_before(&self) -> bool {
-        let mut lines = self.before.split(|byte| *byte == LF);
-        lines.any(|line| bytes(unended(line)).is_some_and(|bytes| bytes[0] > 0 && bytes[3] == 0x00))
+    /// The first address of each data record up to the end record, as srec_cat reads them: below an upper part by type 04, or by type 02.
+    fn data(&self) -> Vec<u64> {
+        let mut block = 0;
+        let mut found = Vec::new();
+        for record in lines(self.before).chain(lines(self.rest)).filter_map(bytes) {
+            match record[..] {
+                [1..=255, high, low, 0, ..] => found.push(block + 256 * u64::from(high) + u64::from(low)),
+                [2, _, _, 2, high, low, _] => block = 16 * (256 * u64::from(high) + u64::from(low)),
+                [2, _, _, 4, high, low, _] => block = 65_536 * (256 * u64::from(high) + u64::from(low)),
+                [0, _, _, 1, _] => break,
+                _ => {}
+            }
+        }
+        found
     }
 
     /// 16: no end record, or what follows it.
@@ -342,7 +373,8 @@ impl Look<'_> {
                 "the text ends without an end record, so the file may be cut off; fetch it again, or add the line {END} if it is whole"
             ),
             [b':', ..] => {
-                format!("a record stands behind the end record; if two texts were joined, join them by {JOIN}; else delete it: {cut}")
+                let join = format!("srec_cat one.hex -intel two.hex -intel -o {} -intel", fresh("hex"));
+                format!("a record stands behind the end record; if two texts were joined, join them by {join}; else delete it: {cut}")
             }
             _ => format!("{} stands behind the end record; delete it: {cut}", shown(self.record())),
         };
@@ -353,6 +385,12 @@ impl Look<'_> {
 /// A line that ended with LF, without the CR that belongs to its ending.
 fn unended(line: &[u8]) -> &[u8] {
     line.strip_suffix(b"\r").unwrap_or(line)
+}
+
+/// The lines of a text, without their endings.
+fn lines(text: &[u8]) -> impl Iterator<Item = &[u8]> {
+    let lines = text.split_inclusive(|byte| *byte == LF);
+    lines.map(|line| line.strip_suffix(&[LF]).map_or(line, unended))
 }
 
 /// The byte of two hexadecimal digits.
@@ -434,7 +472,7 @@ mod tests {
 
     /// Whether nothing but the refusal is known.
     fn is_bare(fault: &Fault<'_>) -> bool {
-        fault.words.starts_with("refusal ")
+        HexRefusal::ALL.iter().any(|refusal| fault.words.starts_with(&refusal.to_string()))
     }
 
     #[test]
@@ -470,13 +508,13 @@ mod tests {
     fn a_fault_that_is_not_found_has_its_line_and_refusal() {
         let found = |refusal, place| find(Source::Input, GOOD, Size::Whole, HexError { refusal, place }).to_string();
         for refusal in HexRefusal::ALL.into_iter().filter(|refusal| *refusal != HexRefusal::End) {
-            assert_eq!(
-                found(refusal, 37),
-                format!("standard input:3:1: refusal {}: {refusal}; {ANEW}", refusal.number())
-            );
+            assert_eq!(found(refusal, 37), format!("standard input:3:1: {refusal}; {ANEW}"));
         }
         let beyond = found(HexRefusal::Checksum, usize::MAX);
-        assert_eq!(beyond, format!("standard input:7:1: refusal 13: {}; {ANEW}", HexRefusal::Checksum));
+        assert_eq!(
+            beyond,
+            format!("standard input:7:1: refusal 13: a record has a wrong checksum; {ANEW}")
+        );
     }
 
     #[test]

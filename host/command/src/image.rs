@@ -2,11 +2,11 @@
 use crate::complaint::{complaint, Complaint};
 use crate::hex;
 use crate::source::Source;
-use oxterin::{ImageLength, Size};
+use oxterin::{hex_text, ImageLength, Size};
 use std::ffi::OsString;
 use std::fs::{self, File};
 use std::io::{self, Write};
-use std::path::{Path, PathBuf};
+use std::path::{is_separator, Path, PathBuf};
 
 /// The array that an image file holds. A file of HEX text fills an array of this size, 131,072 bytes unless it is given; other files have a
 /// size of their own.
@@ -18,14 +18,17 @@ pub fn load(path: &str, size: Option<Size>) -> Result<Vec<u8>, Complaint> {
     }
     match Size::of_bytes(bytes.len()) {
         Some(_) => Ok(bytes),
-        None => Err(wrong_length(source, &bytes)),
+        None => Err(wrong_length(source, &bytes, size)),
     }
 }
 
-/// Saves an array as [`save`] does, as HEX text if the file's name asks for it.
+/// Saves the array of a part as [`save`] does, as HEX text if the file's name asks for it.
 pub fn keep(path: &str, array: &[u8]) -> Result<(), Complaint> {
     if is_hex(path) {
-        return save(path, &hex::text(Source::File(path), array)?);
+        return save(
+            path,
+            &hex_text(array).expect("the array of a part has a size of which HEX is written"),
+        );
     }
     save(path, array)
 }
@@ -36,21 +39,27 @@ fn is_hex(path: &str) -> bool {
     path.ends_with(".hex") || path.ends_with(".ihex")
 }
 
-/// The complaint of an image that has the length of no array.
-pub fn wrong_length(source: Source<'_>, image: &[u8]) -> Complaint {
-    let remedy = match image.len() {
-        0 => "name a file that is not empty".to_string(),
-        _ if image[0] == b':' => format!(
-            "it begins as Intel HEX does: turn it into an image first: {}",
-            source.turned("oxterin hex from", "bin")
-        ),
-        1..=131_072 => format!(
+/// The complaint of an image that has the length of no array, where one of this size is wanted, 131,072 bytes unless it is given.
+pub fn wrong_length(source: Source<'_>, image: &[u8], size: Option<Size>) -> Complaint {
+    let size = size.unwrap_or(Size::Whole);
+    let wanted = size.bytes();
+    let remedy = match image {
+        [] => "name a file that is not empty".to_string(),
+        [b':', ..] => {
+            let turned = source.turned("oxterin hex from", "bin");
+            let option = match size {
+                Size::Whole => String::new(),
+                _ => format!(" --size {wanted}"),
+            };
+            format!("it begins as Intel HEX does: turn it into an image first: {turned}{option}")
+        }
+        _ if image.len() < wanted => format!(
             "fill it up with FFh first: {}",
-            source.converted("-binary -fill 0xFF 0 131072", "-binary", "bin")
+            source.converted(&format!("-binary -fill 0xFF 0 {wanted}"), "-binary", "bin")
         ),
         _ => format!(
-            "if its first 131072 bytes are meant, take those: {}",
-            source.filtered("head -c 131072", "bin")
+            "if its first {wanted} bytes are meant, take those: {}",
+            source.filtered(&format!("head -c {wanted}"), "bin")
         ),
     };
     complaint(format!("{}: {}; {remedy}", source.name(), ImageLength(image.len())))
@@ -94,18 +103,37 @@ impl Place {
     }
 }
 
-/// The place that a path names. Devices, pipes and folders are none.
+/// The place that a path names. Devices, pipes and folders are none, nor are words that can name nothing but a folder.
 fn place(path: &str) -> Result<Place, Complaint> {
-    let file = fs::canonicalize(path).unwrap_or_else(|_| PathBuf::from(path));
+    let file = behind_links(path).ok_or_else(|| complaint(format!("{path}: a link that leads to itself; name a file")))?;
     if fs::metadata(&file).is_ok_and(|there| !there.is_file()) {
         return Err(complaint(format!(
             "{path}: not a plain file, so no image is saved there; name a file"
+        )));
+    }
+    if let Some("" | "." | "..") = file.to_string_lossy().rsplit(is_separator).next() {
+        return Err(complaint(format!(
+            "{path:?} is not the name of a file, so no image is saved there; name a file, such as after.bin"
         )));
     }
     let new = beside(&file);
     Ok(Place { file, new })
 }
 
+/// What a path leads to if it is a link, and a link to a link, whether or not there is something; none if that never ends.
+fn behind_links(path: &str) -> Option<PathBuf> {
+    const MOST: usize = 40;
+    let mut file = PathBuf::from(path);
+    for _ in 0..MOST {
+        match fs::read_link(&file) {
+            Ok(target) => file = file.parent().unwrap_or(Path::new("")).join(target),
+            Err(_) => return Some(file),
+        }
+    }
+    None
+}
+
+/// A name in the folder of a file that no other process uses.
 fn beside(path: &Path) -> PathBuf {
     let mut name = path.file_name().map_or_else(OsString::new, OsString::from);
     name.push(format!(".new-{}", std::process::id()));

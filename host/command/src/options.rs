@@ -118,7 +118,7 @@ pub fn part(given: &Given) -> Result<Part, Complaint> {
 
 /// A part whose array holds the image of this file, which has the size that is said.
 fn holding(path: &str, size: Option<Size>) -> Result<Part, Complaint> {
-    let part = Part::with_image(image::load(path, size)?).map_err(|wrong| complaint(format!("{path}: {wrong}")))?;
+    let part = Part::with_image(image::load(path, size)?).expect("what is loaded has the length of an array");
     match size {
         Some(size) if part.array().len() != size.bytes() => Err(complaint(format!(
             "--size {}: the image has {} bytes; leave --size out, or give an image of that size",

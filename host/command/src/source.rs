@@ -3,7 +3,6 @@ use crate::complaint::{complaint, Complaint};
 use std::borrow::Cow;
 use std::fs;
 use std::io::{self, Read};
-use std::path::Path;
 
 /// The word of the command line that stands for standard input or output.
 pub const DASH: &str = "-";
@@ -72,25 +71,35 @@ impl<'a> Source<'a> {
         }
     }
 
-    /// The name of a new file, which is not the source's own.
+    /// The word for what is made of it: a new file of this ending, or standard output.
     fn fresh(self, ending: &str) -> String {
         match self {
             Source::Input => DASH.to_string(),
-            Source::File(path) => {
-                let name = format!("new.{ending}");
-                match Path::new(path).file_name() {
-                    Some(own) if own.eq_ignore_ascii_case(&name) => format!("newer.{ending}"),
-                    _ => name,
-                }
-            }
+            Source::File(_) => fresh(ending),
         }
     }
 }
 
-/// A path as one word of a shell's command line, never an option.
+/// The name of a file of this ending in the current folder, at which nothing is, not even a link that leads nowhere.
+pub fn fresh(ending: &str) -> String {
+    untaken(ending, |name| fs::symlink_metadata(name).is_ok())
+}
+
+/// The first of the names new, new2, new3 and so on with this ending that is not taken.
+fn untaken(ending: &str, taken: impl Fn(&str) -> bool) -> String {
+    let mut number = 1u64;
+    let mut name = format!("new.{ending}");
+    while taken(&name) {
+        number += 1;
+        name = format!("new{number}.{ending}");
+    }
+    name
+}
+
+/// A path as one word of a shell's command line, never an option, nor what srec_cat takes for a file of arguments.
 fn quoted(path: &str) -> Cow<'_, str> {
     let plain = |c: char| c.is_ascii_alphanumeric() || "/._-+,:@%".contains(c);
-    let path: Cow<'_, str> = match path.starts_with('-') {
+    let path: Cow<'_, str> = match path.starts_with(['-', '@']) {
         true => format!("./{path}").into(),
         false => path.into(),
     };
@@ -114,6 +123,8 @@ mod tests {
             ("my fw.hex", "'my fw.hex'"),
             ("it's", r"'it'\''s'"),
             ("- x", "'./- x'"),
+            ("@fw.hex", "./@fw.hex"),
+            ("a/@fw@1.hex", "a/@fw@1.hex"),
             ("$(x)", "'$(x)'"),
             ("é", "'é'"),
         ] {
@@ -122,14 +133,21 @@ mod tests {
     }
 
     #[test]
-    fn a_new_file_is_another_one() {
-        assert_eq!(Source::File("fw.hex").filtered("sed 3d", "hex"), "sed 3d <fw.hex >new.hex");
-        assert_eq!(Source::File("a/new.HEX").filtered("sed 3d", "hex"), "sed 3d <a/new.HEX >newer.hex");
+    fn a_new_file_has_a_name_that_is_not_taken() {
+        for (taken, name) in [
+            (&[][..], "new.hex"),
+            (&["new.hex"], "new2.hex"),
+            (&["new.hex", "new2.hex", "new4.hex"], "new3.hex"),
+            (&["new.bin", "new2.hex"], "new.hex"),
+        ] {
+            assert_eq!(untaken("hex", |name| taken.contains(&name)), name);
+        }
+        assert_eq!(untaken("bin", |name| name != "new12.bin"), "new12.bin");
+    }
+
+    #[test]
+    fn standard_input_is_filtered_to_standard_output() {
         assert_eq!(Source::Input.filtered("sed 3d", "hex"), "sed 3d");
-        assert_eq!(
-            Source::File("new.bin").converted("-binary", "-binary", "bin"),
-            "srec_cat new.bin -binary -o newer.bin -binary"
-        );
         assert_eq!(Source::Input.converted("-intel", "-intel", "hex"), "srec_cat - -intel -o - -intel");
         assert_eq!(Source::Input.turned("oxterin hex to", "hex"), "oxterin hex to - -");
     }

@@ -9,8 +9,14 @@ const END: &str = ":00000001FF\n";
 
 /// Runs the command with these words, and these bytes on standard input.
 fn oxterin(words: &[&str], input: &[u8]) -> Output {
+    oxterin_in(Path::new("."), words, input)
+}
+
+/// Runs the command in a folder.
+fn oxterin_in(folder: &Path, words: &[&str], input: &[u8]) -> Output {
     let mut child = Command::new(env!("CARGO_BIN_EXE_oxterin"))
         .args(words)
+        .current_dir(folder)
         .stdin(Stdio::piped())
         .stdout(Stdio::piped())
         .stderr(Stdio::piped())
@@ -31,7 +37,12 @@ fn says(words: &[&str], input: &[u8]) -> Vec<u8> {
 
 /// Runs the command, which has to fail and write nothing on standard output: what it complains of.
 fn complaint(words: &[&str], input: &[u8]) -> String {
-    let output = oxterin(words, input);
+    complaint_in(Path::new("."), words, input)
+}
+
+/// Runs the command in a folder, as [`complaint`] does.
+fn complaint_in(folder: &Path, words: &[&str], input: &[u8]) -> String {
+    let output = oxterin_in(folder, words, input);
     assert_eq!(output.status.code(), Some(2), "{words:?}");
     assert_eq!(output.stdout, b"", "{words:?}");
     let complaint = String::from_utf8(output.stderr).expect("text");
@@ -277,7 +288,7 @@ fn types_that_are_not_read_have_their_names() {
         "types",
         &[
             (
-                &record(2, 0, &[0x10, 0x00]),
+                &(record(2, 0, &[0x10, 0x00]) + END),
                 "2:8: refusal 14: type 02 (extended segment address) is not read; convert the file first: srec_cat fw.hex -intel -o new.hex -intel",
             ),
             (
@@ -302,19 +313,19 @@ fn data_that_does_not_fit_has_its_addresses() {
         "outside",
         &[
             (
-                &record(0, 0xFFF8, &[0; 16]),
+                &(record(0, 0xFFF8, &[0; 16]) + END),
                 "2:4: refusal 15: data at 00FFF8h to 010007h goes past the 64 KiB that begin at 000000h; \
                  split the record first: srec_cat fw.hex -intel -o new.hex -intel -Output_Block_Alignment",
             ),
             (
-                &(record(4, 0, &[0, 2]) + &record(0, 0, &[0])),
+                &(record(4, 0, &[0, 2]) + &record(0, 0, &[0]) + END),
                 "3:4: refusal 15: data at 020000h is outside the array, which has 131072 bytes; \
-                 take a file for this part, or drop first what is outside: srec_cat fw.hex -intel -crop 0 131072 -o new.hex -intel",
+                 take a file for this part, or drop what is outside first: srec_cat fw.hex -intel -crop 0 131072 -o new.hex -intel",
             ),
             (
-                &(record(4, 0, &[0, 1]) + &record(4, 0, &[0xFF, 0xFF]) + &record(0, 0xFFFE, &[0, 0])),
+                &(record(4, 0, &[0, 1]) + &record(4, 0, &[0xFF, 0xFF]) + &record(0, 0xFFFE, &[0, 0]) + END),
                 "4:4: refusal 15: data at FFFFFFFEh to FFFFFFFFh is outside the array, which has 131072 bytes; \
-                 take a file for this part, or drop first what is outside: srec_cat fw.hex -intel -crop 0 131072 -o new.hex -intel",
+                 take a file for this part, or drop what is outside first: srec_cat fw.hex -intel -crop 0 131072 -o new.hex -intel",
             ),
         ],
     );
@@ -330,6 +341,103 @@ fn data_that_does_not_fit_has_its_addresses() {
         "2:4: refusal 15: data at 08000020h to 0800002Fh is outside the array, which has 65536 bytes; \
          take a file for this part, or move its data down first: srec_cat fw.hex -intel -offset -0x8000000 -o new.hex -intel"
     );
+}
+
+#[test]
+fn data_is_moved_down_only_if_none_lies_below_it() {
+    let folder = folder("below");
+    let far = record(4, 0, &[0x08, 0x01]) + &record(0, 0, b"far");
+    let outside = "data at 08010000h to 08010002h is outside the array, which has 131072 bytes; take a file for this part";
+    let moved = ", or move its data down first: srec_cat fw.hex -intel -offset -0x8010000 -o new.hex -intel";
+    let dropped = ", or drop what is outside first: srec_cat fw.hex -intel -crop 0 131072 -o new.hex -intel";
+    for (behind, remedy) in [
+        (record(4, 0, &[0x08, 0x02]) + &record(0, 0, b"above"), moved),
+        (record(4, 0, &[0x08, 0x00]) + &record(0, 0, b""), moved),
+        (record(4, 0, &[0x08, 0x00]) + &record(0, 0xFFFF, b"!"), ""),
+        (record(4, 0, &[0, 0]) + &record(0, 0x10, b"inside"), dropped),
+        (record(2, 0, &[0x10, 0x00]) + &record(0, 0x10, b"inside"), dropped),
+        (record(2, 0, &[0xF0, 0x00]) + &record(0, 0x10, b"below"), ""),
+    ] {
+        let text = far.clone() + &behind + END;
+        assert_eq!(
+            fault(&folder, text.as_bytes(), "131072"),
+            format!("2:4: refusal 15: {outside}{remedy}"),
+            "{text}"
+        );
+    }
+}
+
+#[test]
+fn a_text_that_is_not_whole_is_said_to_be_so_before_it_is_converted() {
+    let segment = record(2, 0, &[0x10, 0x00]) + &record(0, 0, b"data");
+    let over = record(0, 0xFFF8, &[0; 16]);
+    let far = record(4, 0, &[0, 2]) + &record(0, 0, &[0]);
+    let convert = "convert the file: srec_cat fw.hex -intel -o new.hex -intel";
+    let split = "split the record: srec_cat fw.hex -intel -o new.hex -intel -Output_Block_Alignment";
+    let drop = "drop what is outside: srec_cat fw.hex -intel -crop 0 131072 -o new.hex -intel";
+    let kind = "2:8: refusal 14: type 02 (extended segment address) is not read, and";
+    let past = "2:4: refusal 15: data at 00FFF8h to 010007h goes past the 64 KiB that begin at 000000h, and";
+    let outside = "3:4: refusal 15: data at 020000h is outside the array, which has 131072 bytes, and";
+    let cut_off = "the text has no end record, so it may be cut off";
+    let behind = |line| format!("line {line} stands behind the end record, where srec_cat does not read");
+    let left_out = "line 4, which does not begin with a colon, is left out by srec_cat";
+    let (again, see) = ("fetch it again before you", "see what that is before you");
+    faults(
+        "not-whole",
+        &[
+            (&segment, &format!("{kind} {cut_off}: {again} {convert}")),
+            (&(segment.clone() + ":000000"), &format!("{kind} {cut_off}: {again} {convert}")),
+            (
+                &(segment.clone() + END + &record(0, 0, b"lost") + END),
+                &format!("{kind} {}: {see} {convert}", behind(5)),
+            ),
+            (&(segment.clone() + END + "\n"), &format!("{kind} {}: {see} {convert}", behind(5))),
+            (
+                &(segment.clone() + "0100000055AA\n" + END),
+                &format!("{kind} {left_out}: {see} {convert}"),
+            ),
+            (
+                &(segment.clone() + "\n:00123401b9\r\n"),
+                "2:8: refusal 14: type 02 (extended segment address) is not read; \
+                 convert the file first: srec_cat fw.hex -intel -o new.hex -intel",
+            ),
+            (&over, &format!("{past} {cut_off}: {again} {split}")),
+            (&(over.clone() + END + ":"), &format!("{past} {}: {see} {split}", behind(4))),
+            (&far, &format!("{outside} {cut_off}: take a file for this part, or {again} {drop}")),
+            (
+                &(far.clone() + END + END),
+                &format!("{outside} {}: take a file for this part, or {see} {drop}", behind(5)),
+            ),
+        ],
+    );
+}
+
+#[cfg(unix)]
+#[test]
+fn a_remedy_names_a_file_that_is_not_there() {
+    use std::os::unix::fs::symlink;
+    let folder = folder("new");
+    let (text, fault) = (record(5, 0, &[0; 4]) + END, "type 05 (start linear address) is not read");
+    let names = |name: &str, new: &str| {
+        let remedy = format!("it has no data, so delete the line: sed 1d <{name} >{new}");
+        assert_eq!(
+            complaint_in(&folder, &["hex", "from", name, "-"], b""),
+            format!("{name}:1:8: refusal 14: {fault}; {remedy}")
+        );
+    };
+    for file in ["fw.hex", "new.bin"] {
+        fs::write(folder.join(file), &text).expect("written");
+    }
+    names("fw.hex", "new.hex");
+    fs::write(folder.join("new.hex"), &text).expect("written");
+    names("new.hex", "new2.hex");
+    symlink("nowhere", folder.join("new2.hex")).expect("linked");
+    names("fw.hex", "new3.hex");
+    fs::create_dir(folder.join("new3.hex")).expect("a folder");
+    names("fw.hex", "new4.hex");
+    fs::write(folder.join("fw.hex"), END.repeat(2)).expect("written");
+    let joined = complaint_in(&folder, &["hex", "from", "fw.hex", "-"], b"");
+    assert!(joined.contains("two.hex -intel -o new4.hex -intel; else delete it: head -n 1 <fw.hex >new4.hex"));
 }
 
 #[test]
@@ -380,6 +488,14 @@ fn files_that_are_no_hex_at_all_are_known() {
         ),
         (
             &[0xFF; 65_536],
+            "1:1: refusal 12: no colon, and as many bytes as an image has; if it is one, make HEX of it first: oxterin hex to fw.hex new.hex",
+        ),
+        (
+            &[b"S1", &[b'0'; 131_070][..]].concat(),
+            "1:1: refusal 12: no colon, and as many bytes as an image has; if it is one, make HEX of it first: oxterin hex to fw.hex new.hex",
+        ),
+        (
+            &[&[0xFF, 0xFE], &[0; 65_534][..]].concat(),
             "1:1: refusal 12: no colon, and as many bytes as an image has; if it is one, make HEX of it first: oxterin hex to fw.hex new.hex",
         ),
         (
@@ -442,6 +558,38 @@ fn an_image_of_another_size_is_named_with_its_size_and_a_remedy() {
     assert!(complaint(&["hex", "to", "-", "-"], b"abc").contains("has 3; fill it up with FFh first: srec_cat - -binary "));
 }
 
+#[test]
+fn the_remedy_for_an_image_goes_by_the_size_that_is_given() {
+    let folder = folder("given-size");
+    for (bytes, size, remedy) in [
+        (
+            vec![0; 1000],
+            "65536",
+            "srec_cat fw.bin -binary -fill 0xFF 0 65536 -o new.bin -binary",
+        ),
+        (
+            vec![0; 1000],
+            "131072",
+            "srec_cat fw.bin -binary -fill 0xFF 0 131072 -o new.bin -binary",
+        ),
+        (
+            vec![0; 100_000],
+            "65536",
+            "if its first 65536 bytes are meant, take those: head -c 65536 <fw.bin >new.bin",
+        ),
+        (vec![0; 200_000], "131072", "head -c 131072 <fw.bin >new.bin"),
+        (END.into(), "65536", "oxterin hex from fw.bin new.bin --size 65536"),
+        (END.into(), "131072", "oxterin hex from fw.bin new.bin"),
+    ] {
+        fs::write(folder.join("fw.bin"), bytes).expect("written");
+        let said = complaint_in(&folder, &["run", "--image", "fw.bin", "--size", size], b"");
+        assert!(
+            said.ends_with(&format!(": {remedy}")) || said.ends_with(&format!("; {remedy}")),
+            "{said}"
+        );
+    }
+}
+
 #[cfg(unix)]
 #[test]
 fn files_are_saved_behind_links_with_their_permissions() {
@@ -458,6 +606,47 @@ fn files_are_saved_behind_links_with_their_permissions() {
     assert_eq!(fs::metadata(&file).expect("there").permissions().mode() & 0o777, 0o600);
     assert!(fs::symlink_metadata(&link).expect("there").is_symlink());
     assert_eq!(fs::read_dir(&folder).expect("the folder").count(), 2);
+}
+
+#[cfg(unix)]
+#[test]
+fn links_to_what_is_not_there_yet_are_followed() {
+    use std::os::unix::fs::symlink;
+    let folder = folder("dangling");
+    let inner = folder.join("inner");
+    fs::create_dir(&inner).expect("a folder");
+    symlink("inner/link", folder.join("first")).expect("linked");
+    symlink("file", inner.join("link")).expect("linked");
+    says(&["hex", "from", "-", word(&folder.join("first"))], END.as_bytes());
+    assert_eq!(fs::read(inner.join("file")).expect("saved"), [0xFF; 131_072]);
+    for link in [folder.join("first"), inner.join("link")] {
+        assert!(fs::symlink_metadata(link).expect("there").is_symlink());
+    }
+    assert_eq!(fs::read_dir(&inner).expect("the folder").count(), 2);
+    symlink("circle", folder.join("circle")).expect("linked");
+    let said = complaint(&["hex", "from", "-", word(&folder.join("circle"))], END.as_bytes());
+    assert!(said.ends_with("circle: a link that leads to itself; name a file"), "{said}");
+}
+
+#[test]
+fn words_that_name_no_file_are_refused_before_anything_is_read() {
+    let folder = folder("no-file");
+    fs::write(folder.join("file"), "as it was").expect("written");
+    for path in ["", "zz/", "zz/.", "zz/..", "file/", "file/."] {
+        for words in [
+            &["hex", "from", "no such file", path][..],
+            &["hex", "to", "no such file", path],
+            &["run", "--save", path],
+        ] {
+            let said = complaint_in(&folder, words, b"");
+            assert_eq!(
+                said,
+                format!("{path:?} is not the name of a file, so no image is saved there; name a file, such as after.bin")
+            );
+        }
+    }
+    assert_eq!(fs::read(folder.join("file")).expect("there"), b"as it was");
+    assert_eq!(fs::read_dir(&folder).expect("the folder").count(), 1);
 }
 
 #[test]
