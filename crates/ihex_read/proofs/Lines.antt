@@ -239,6 +239,7 @@ place-some (c ∷ text) l = omega arith
 -- the lines from a place of the text on
 pub lines-at : (text : List ℕ) (at : ℕ) → at < length text
     → linesIn (drop at text) ≡ lineAt text at ∷ linesIn (drop (at + placeOf 1 (drop at text)) text)
+unfolding lineAt
 lines-at text at l =
     rw (drop-cons text at 0 l) (lines-on (getD text at 0) (drop (suc at) text)) ∙
     ap (λ (s : List ℕ). lineAt text at ∷ linesIn s) (drop-drop (placeOf 1 (drop at text)) at text)

@@ -50,7 +50,7 @@ byte-read text at k h l f g m =
     rw (f (omega arith), g (omega arith)) (sym e)
 
 -- each of n pairs is one
-pub pair-of : (text : List ℕ) (n k : ℕ) → pairs text n ≡ true → k < n → byteAt text k < 256
+pair-of : (text : List ℕ) (n k : ℕ) → pairs text n ≡ true → k < n → byteAt text k < 256
 unfolding pairs
 pair-of text zero k e l = absurd (omega arith)
 pair-of text (suc n) k e l = by (ℕ-discrete k n) (and-eq-true-iff (pairs text n) (ltb (byteAt text n) 256) .0 e) (pair-of text n k)
@@ -60,7 +60,7 @@ pair-of text (suc n) k e l = by (ℕ-discrete k n) (and-eq-true-iff (pairs text 
     by (no p) w h = h (w .0) (omega arith)
 
 -- pairs lie in the text
-pub pairs-inside : (text : List ℕ) (n k : ℕ) → pairs text n ≡ true → k < n → 2 * k + 2 < length text
+pairs-inside : (text : List ℕ) (n k : ℕ) → pairs text n ≡ true → k < n → 2 * k + 2 < length text
 pairs-inside text n k e l = digit-inside text (2 * k + 2) (pair-digits text k (pair-of text n k e l) .1)
 
 -- and end no line
@@ -150,7 +150,7 @@ module _ (text : List ℕ) where
       }
 
   -- what is not whole in the text is no whole line
-  pub not-whole : (pairs text (asked text) ≡ true → ⊥) → isWhole line ≡ false
+  not-whole : (pairs text (asked text) ≡ true → ⊥) → isWhole line ≡ false
   not-whole h = by (isWhole line) refl
     where
       by : (b : Bool) → isWhole line ≡ b → b ≡ false
@@ -158,16 +158,16 @@ module _ (text : List ℕ) where
       by false e = refl
 
   -- so a text that is too short for the length, or a length that is no pair of digits
-  pub too-short : length text < 2 * asked text + 1 → isWhole line ≡ false
+  too-short : length text < 2 * asked text + 1 → isWhole line ≡ false
   too-short l =
       not-whole (λ e. let p : 2 * (lengthOf text + 4) + 2 < length text = pairs-inside text (asked text) (lengthOf text + 4) e (omega arith) in omega arith)
 
-  pub no-length : ltb (lengthOf text) 256 ≡ false → isWhole line ≡ false
+  no-length : ltb (lengthOf text) 256 ≡ false → isWhole line ≡ false
   no-length z =
       not-whole (λ e. let p : lengthOf text < 256 = pair-of text (asked text) 0 e (omega arith) in let q : 256 ≤ lengthOf text = ltb-false (lengthOf text) 256 z in omega arith)
 
   -- whether the line is whole, as the reader tests it
-  pub whole-test : isWhole line ≡ (eqb (getD text 0 0) colon && pairs text (asked text) && isEnd (drop (2 * asked text + 1) text))
+  whole-test : isWhole line ≡ (eqb (getD text 0 0) colon && pairs text (asked text) && isEnd (drop (2 * asked text + 1) text))
   whole-test =
       agree (isWhole line) (eqb (getD text 0 0) colon && pairs text (asked text) && isEnd (drop (2 * asked text + 1) text))
       (λ e.
@@ -188,22 +188,22 @@ module _ (text : List ℕ) where
     here : length line ≡ 2 * asked text + 1
     here = long (whole-standing e)
 
-    pub whole-inside : 2 * asked text + 1 ≤ length text
+    whole-inside : 2 * asked text + 1 ≤ length text
     whole-inside = let l : length line ≤ length text = first-long text in omega (arith, here)
 
-    pub whole-byte : (k : ℕ) → k < asked text → byteAt line k ≡ byteAt text k
+    whole-byte : (k : ℕ) → k < asked text → byteAt line k ≡ byteAt text k
     whole-byte k l = byte-line k (omega (arith, here))
 
-    pub whole-small : (k : ℕ) → k < asked text → byteAt text k < 256
+    whole-small : (k : ℕ) → k < asked text → byteAt text k < 256
     whole-small k l = pair-of text (asked text) k (whole-standing e .paired) l
 
-    pub whole-sum : sumOf line (asked line) ≡ sumOf text (asked text)
+    whole-sum : sumOf line (asked line) ≡ sumOf text (asked text)
     whole-sum = rw (same-length (omega (arith, here))) (sum-line (asked text) (omega (arith, here)))
 
-    pub whole-end : isEnd (drop (2 * asked text + 1) text) ≡ true
+    whole-end : isEnd (drop (2 * asked text + 1) text) ≡ true
     whole-end = whole-standing e .ends
 
-    pub whole-next : placeOf 1 text ≡ 2 * asked text + 1 + placeOf 1 (drop (2 * asked text + 1) text)
+    whole-next : placeOf 1 text ≡ 2 * asked text + 1 + placeOf 1 (drop (2 * asked text + 1) text)
     whole-next = rw here at (place-first text)
 
 -- what stands behind the pairs of the line that begins at a place
@@ -212,29 +212,56 @@ past text at n p =
     let far : 2 * asked (drop at text) + 1 ≡ 2 * n + 11 = omega arith in
     drop-drop (2 * asked (drop at text) + 1) at text ∙ ap (λ (k : ℕ). drop (at + k) text) far
 
--- The reader's test, at a place of the text.
+-- The reader's tests, at a place of the text.
 pub found : (text : List ℕ) (at n : ℕ) (w e : Bool) → n ≡ lengthOf (drop at text) → w ≡ pairs (drop at text) (n + 5)
-    → e ≡ isEnd (drop (at + (2 * n + 11)) text) → (eqb (getD text at 0) colon && w && e) ≡ isWhole (first (linesIn (drop at text)))
+    → e ≡ isEnd (drop (at + (2 * n + 11)) text) → (eqb (getD text at 0) colon && w && e) ≡ isWhole (lineAt text at)
+unfolding lineAt
 found text at n w e p q r =
     let there : getD (drop at text) 0 0 ≡ getD text at 0 = getD-drop at text 0 0 ∙ ap (λ (k : ℕ). getD text k 0) (add-zero at) in
     rw (whole-test (drop at text), there, past text at n p, ← p, ← q, ← r)
 
--- and so at the line that begins at a place: its pairs lie in the text
-pub whole-room : (text : List ℕ) (at k : ℕ) → isWhole (lineAt text at) ≡ true → k < asked (drop at text) → at + 2 * k + 2 < length text
-whole-room text at k e l =
-    let w : 2 * asked (drop at text) + 1 ≤ length (drop at text) = whole-inside (drop at text) e in omega (arith, length-drop at text)
+pub too-short-at : (text : List ℕ) (at : ℕ) → length text - at < 2 * asked (drop at text) + 1 → isWhole (lineAt text at) ≡ false
+unfolding lineAt
+too-short-at text at l = too-short (drop at text) (omega (arith, length-drop at text))
 
--- where it ends, and where the next line begins
-pub whole-far : (text : List ℕ) (at n : ℕ) → isWhole (lineAt text at) ≡ true → n ≡ lengthOf (drop at text)
-    → (at + (2 * n + 11) ≤ length text) × (isEnd (drop (at + (2 * n + 11)) text) ≡ true)
-    × (placeOf 1 (drop at text) ≡ 2 * n + 11 + placeOf 1 (drop (at + (2 * n + 11)) text))
-whole-far text at n e p =
-    let far : 2 * asked (drop at text) + 1 ≡ 2 * n + 11 = omega arith in
-    let rest : drop (2 * asked (drop at text) + 1) (drop at text) ≡ drop (at + (2 * n + 11)) text = past text at n p in
-    let l : at + 2 * (lengthOf (drop at text) + 4) + 2 < length text = whole-room text at (lengthOf (drop at text) + 4) e (omega arith) in
-    (omega arith, rw rest at (whole-end (drop at text) e), rw (rest, far) at (whole-next (drop at text) e))
+pub no-length-at : (text : List ℕ) (at : ℕ) → ltb (lengthOf (drop at text)) 256 ≡ false → isWhole (lineAt text at) ≡ false
+unfolding lineAt
+no-length-at text at e = no-length (drop at text) e
 
--- what was read of it if it is a pair of digits is the line's byte
-pub whole-read : (text : List ℕ) (at k r : ℕ) → isWhole (lineAt text at) ≡ true → k < asked (drop at text)
-    → (byteAt (drop at text) k < 256 → r ≡ byteAt (drop at text) k) → r ≡ byteAt (lineAt text at) k
-whole-read text at k r e l f = f (whole-small (drop at text) e k l) ∙ sym (whole-byte (drop at text) e k l)
+-- What is known where the line that begins at a place is whole.
+module _ (text : List ℕ) (at : ℕ) (whole : isWhole (lineAt text at) ≡ true) where
+  first-whole : isWhole (first (linesIn (drop at text))) ≡ true
+  unfolding lineAt
+  first-whole = whole
+
+  -- its pairs lie in the text
+  pub whole-room : (k : ℕ) → k < asked (drop at text) → at + 2 * k + 2 < length text
+  whole-room k l = let w : 2 * asked (drop at text) + 1 ≤ length (drop at text) = whole-inside (drop at text) first-whole in omega (arith, length-drop at text)
+
+  -- and are bytes
+  pub byte-small : (k : ℕ) → k < asked (drop at text) → byteAt (drop at text) k < 256
+  byte-small k l = whole-small (drop at text) first-whole k l
+
+  -- which are the line's
+  pub same-byte : (k : ℕ) → k < asked (drop at text) → byteAt (lineAt text at) k ≡ byteAt (drop at text) k
+  unfolding lineAt
+  same-byte k l = whole-byte (drop at text) whole k l
+
+  pub same-sum : sumOf (lineAt text at) (asked (lineAt text at)) ≡ sumOf (drop at text) (asked (drop at text))
+  unfolding lineAt
+  same-sum = whole-sum (drop at text) whole
+
+  -- what was read of one if it is a byte is the line's byte
+  pub read-byte : (k : ℕ) {r : ℕ} → k < asked (drop at text) → (byteAt (drop at text) k < 256 → r ≡ byteAt (drop at text) k)
+      → r ≡ byteAt (lineAt text at) k
+  read-byte k l f = f (byte-small k l) ∙ sym (same-byte k l)
+
+  -- where it ends, and where the next line begins
+  pub whole-far : (n : ℕ) → n ≡ lengthOf (drop at text)
+      → (at + (2 * n + 11) ≤ length text) × (isEnd (drop (at + (2 * n + 11)) text) ≡ true)
+      × (placeOf 1 (drop at text) ≡ 2 * n + 11 + placeOf 1 (drop (at + (2 * n + 11)) text))
+  whole-far n p =
+      let far : 2 * asked (drop at text) + 1 ≡ 2 * n + 11 = omega arith in
+      let rest : drop (2 * asked (drop at text) + 1) (drop at text) ≡ drop (at + (2 * n + 11)) text = past text at n p in
+      let l : at + 2 * (lengthOf (drop at text) + 4) + 2 < length text = whole-room (lengthOf (drop at text) + 4) (omega arith) in
+      (omega arith, rw rest at (whole-end (drop at text) first-whole), rw (rest, far) at (whole-next (drop at text) first-whole))

@@ -127,7 +127,7 @@ abbrev pub first : List (List ℕ) → List ℕ
 first [] = []
 first (line ∷ lines) = line
 
-abbrev pub lineAt : List ℕ → ℕ → List ℕ
+unfoldable pub lineAt : List ℕ → ℕ → List ℕ
 lineAt text at = first (linesIn (drop at text))
 
 -- and what stands where a line ends: nothing, LF, or CR and LF

@@ -7,7 +7,11 @@ use denote.Ref.{now}
 use Rattle.ihex_read.proofs.Whole.{byte-read}
 
 returns : tie.Need-returns
-returns c = (byte-read (now (c .before .before .before .before .before .args .text)) (c .before .before .before .before .before .args .at) (c .before .before .before .before .before .args .k) _ _ (c .before .before .digit-of .ensures .0) (c .digit-of2 .ensures .0), omega (arith, c .before .before .digit-of .ensures .1, c .digit-of2 .ensures .1))
+returns c =
+    let a = c .before .before .before .before .before .args in
+    let high = c .before .before .digit-of .ensures in
+    let low = c .digit-of2 .ensures in
+    (byte-read (now (a .text)) (a .at) (a .k) _ _ (high .0) (low .0), omega (arith, high .1, low .1))
 
 pub byte-at-spec : {M : Type 1} → statement M
 byte-at-spec =

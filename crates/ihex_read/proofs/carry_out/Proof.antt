@@ -10,7 +10,7 @@ use denote.Ref.{now}
 use lib.ListN.{length, drop}
 use Rattle.ihex_write.specs.Layout.{kindOf}
 use Rattle.ihex_read.specs.Reader.{linesIn, lineAt, malformed, faultOf, carried}
-use Rattle.ihex_read.proofs.Whole.{whole-room, whole-read}
+use Rattle.ihex_read.proofs.Whole.{whole-room, read-byte}
 use Rattle.ihex_read.proofs.Faults.{sound, sound-whole}
 use Rattle.ihex_read.proofs.Walks.{Walk, sets-out, faultless, goes-on, no-end, carries, carries-no-more, obeyed-long, next-inside, next-further}
 
@@ -27,29 +27,36 @@ abbrev μ-loop : tie.MeasureT-loop
 μ-loop array₀ text at₀ upper₀ array at upper = length text - at
 
 -- no line of the text has a fault
-faultfree : (c : tie.In-loop Inv-loop μ-loop) → faultOf (length (now (c .before .before .before .before .args .array))) (c .before .loop .upper) (lineAt (now (c .before .before .before .before .args .text)) (c .before .loop .at)) ≡ 0
+faultfree : (c : tie.In-loop Inv-loop μ-loop) →
+    let a = c .before .before .before .before .args in
+    faultOf (length (now (a .array))) (c .before .loop .upper) (lineAt (now (a .text)) (c .before .loop .at)) ≡ 0
 faultfree c = faultless (c .before .loop .inv .walk) (c .loop-test .taken) (c .before .before .before .before .pre)
 
-good : (c : tie.In-loop Inv-loop μ-loop) → malformed (lineAt (now (c .before .before .before .before .args .text)) (c .before .loop .at)) ≡ false
+good : (c : tie.In-loop Inv-loop μ-loop) → let a = c .before .before .before .before .args in malformed (lineAt (now (a .text)) (c .before .loop .at)) ≡ false
 good c = sound _ _ _ (faultfree c)
 
-kind : (c : tie.After-byte-at Inv-loop μ-loop) → kindOf (lineAt (now (c .before .before .before .before .before .args .text)) (c .before .before .loop .at)) ≡ c .byte-at .result
-kind c = sym (whole-read (now (c .before .before .before .before .before .args .text)) (c .before .before .loop .at) 3 _ (sound-whole _ (good (c .before))) (omega arith) (c .byte-at .ensures .0))
+kind : (c : tie.After-byte-at Inv-loop μ-loop) → let a = c .before .before .before .before .before .args in kindOf (lineAt (now (a .text)) (c .before .before .loop .at)) ≡ c .byte-at .result
+kind c =
+    let a = c .before .before .before .before .before .args in
+    sym (read-byte (now (a .text)) (c .before .before .loop .at) (sound-whole _ (good (c .before))) 3 (omega arith) (c .byte-at .ensures .0))
 
 loop-holds : tie.Need-loop-holds Inv-loop μ-loop
 loop-holds c = record { walk = sets-out _ _; long = refl; so-far = refl }
 
 byte-at-requires : tie.Need-byte-at-requires Inv-loop μ-loop
-byte-at-requires c κs = whole-room (now (c .before .before .before .before .args .text)) (c .before .loop .at) 3 (sound-whole _ (good c)) (omega arith)
+byte-at-requires c κs = let a = c .before .before .before .before .args in whole-room (now (a .text)) (c .before .loop .at) (sound-whole _ (good c)) 3 (omega arith)
 
 same-length : tie.Need-same-length Inv-loop μ-loop
 same-length c = c .before .before .before .loop .inv .long
 
 returns : tie.Need-returns Inv-loop μ-loop
-returns c = sym (carries-no-more (c .before .before .before .loop .inv .walk) (c .before .before .before .loop .array) (c .before .before .loop-test .taken) (kind (c .before) ∙ c .if1 .taken) (c .before .before .before .before .before .before .pre)) ∙ c .before .before .before .loop .inv .so-far
+returns c =
+    let l = c .before .before .before .loop in
+    let last = carries-no-more (l .inv .walk) (l .array) (c .before .before .loop-test .taken) (kind (c .before) ∙ c .if1 .taken) (c .before .before .before .before .before .before .pre) in
+    sym last ∙ l .inv .so-far
 
 obey-requires : tie.Need-obey-requires Inv-loop μ-loop
-obey-requires c κs = (rw (c .before .before .before .before .loop .inv .long) (faultfree (c .before .before .before)), c .before .before .before .before .loop .inv .walk .small)
+obey-requires c κs = let so = c .before .before .before .before .loop .inv in (rw (so .long) (faultfree (c .before .before .before)), so .walk .small)
 
 next-line-requires : tie.Need-next-line-requires Inv-loop μ-loop
 next-line-requires c κs = sound-whole _ (good (c .before .before .before .before .before .before))
@@ -58,16 +65,24 @@ upper-behind-requires : tie.Need-upper-behind-requires Inv-loop μ-loop
 upper-behind-requires c κs = (good (c .before .before .before .before .before .before .before), c .before .before .before .before .before .before .before .before .loop .inv .walk .small)
 
 loop-less : tie.Need-loop-less Inv-loop μ-loop
-loop-less c = omega (arith, c .before .next-line .ensures, next-inside (c .before .before .before .before .before .before .before .before .before .loop .inv .walk), next-further (c .before .before .before .before .before .before .before .before .before .loop .inv .walk) (c .before .before .before .before .before .before .before .before .loop-test .taken))
+loop-less c =
+    let walk = c .before .before .before .before .before .before .before .before .before .loop .inv .walk in
+    omega (arith, c .before .next-line .ensures, next-inside walk, next-further walk (c .before .before .before .before .before .before .before .before .loop-test .taken))
 
 loop-again : tie.Need-loop-again Inv-loop μ-loop
 loop-again c =
+    let l = c .before .before .before .before .before .before .before .before .before .loop in
+    let more = c .before .before .before .before .before .before .before .before .loop-test .taken in
+    let next = c .before .next-line .ensures in
+    let upper = c .upper-behind .ensures in
+    let obeyed = c .before .before .before .before .obey .ensures in
     record {
       walk =
-          rw (c .before .next-line .ensures, c .upper-behind .ensures .0)
-          (goes-on (c .before .before .before .before .before .before .before .before .before .loop .inv .walk) (c .before .before .before .before .before .before .before .before .loop-test .taken) (faultfree (c .before .before .before .before .before .before .before .before)) (λ e. c .before .before .before .before .before .before .if1 .left (sym (kind (c .before .before .before .before .before .before .before)) ∙ e)) (rw (c .upper-behind .ensures .0) at (c .upper-behind .ensures .1)));
-      long = rw (c .before .before .before .before .obey .ensures) (obeyed-long _ _ _ ∙ c .before .before .before .before .before .before .before .before .before .loop .inv .long);
-      so-far = rw (c .before .next-line .ensures, c .upper-behind .ensures .0, c .before .before .before .before .obey .ensures) (sym (carries (c .before .before .before .before .before .before .before .before .before .loop .inv .walk) (c .before .before .before .before .before .before .before .before .before .loop .array) (c .before .before .before .before .before .before .before .before .loop-test .taken)) ∙ c .before .before .before .before .before .before .before .before .before .loop .inv .so-far);
+          rw (next, upper .0)
+          (goes-on (l .inv .walk) more (faultfree (c .before .before .before .before .before .before .before .before)) (λ e. c .before .before .before .before .before .before .if1 .left (sym (kind (c .before .before .before .before .before .before .before)) ∙ e))
+          (rw (upper .0) at (upper .1)));
+      long = rw obeyed (obeyed-long _ _ _ ∙ l .inv .long);
+      so-far = rw (next, upper .0, obeyed) (sym (carries (l .inv .walk) (l .array) more) ∙ l .inv .so-far);
     }
 
 same-length-2 : tie.Need-same-length-2 Inv-loop μ-loop

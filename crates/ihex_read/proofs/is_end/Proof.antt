@@ -8,13 +8,13 @@ use denote.Ref.{now}
 use Rattle.ihex_read.proofs.Lines.{end-none, end-one, end-two}
 
 returns : tie.Need-returns
-returns c = sym (end-none (now (c .before .args .text)) (c .before .args .at) (omega arith))
+returns c = let a = c .before .args in sym (end-none (now (a .text)) (a .at) (omega arith))
 
 returns-2 : tie.Need-returns-2
-returns-2 c = sym (end-one (now (c .before .before .before .args .text)) (c .before .before .before .args .at) (omega arith))
+returns-2 c = let a = c .before .before .before .args in sym (end-one (now (a .text)) (a .at) (omega arith))
 
 returns-3 : tie.Need-returns-3
-returns-3 c = sym (end-two (now (c .before .before .before .before .before .args .text)) (c .before .before .before .before .before .args .at) (omega arith))
+returns-3 c = let a = c .before .before .before .before .before .args in sym (end-two (now (a .text)) (a .at) (omega arith))
 
 pub is-end-spec : {M : Type 1} → statement M
 is-end-spec =

@@ -7,7 +7,9 @@ use Rattle.ihex_read.proofs.Whole.{byte-there}
 use Rattle.ihex_read.proofs.Values.{pair-test}
 
 returns : tie.Need-returns
-returns c = rw (c .before .before .is-digit .ensures, c .is-digit2 .ensures, byte-there (now (c .before .before .before .before .before .args .text)) (c .before .before .before .before .before .args .at) (c .before .before .before .before .before .args .k)) (pair-test _ _)
+returns c =
+    let a = c .before .before .before .before .before .args in
+    rw (c .before .before .is-digit .ensures, c .is-digit2 .ensures, byte-there (now (a .text)) (a .at) (a .k)) (pair-test _ _)
 
 pub is-pair-spec : {M : Type 1} → statement M
 is-pair-spec =

@@ -17,20 +17,29 @@ allowed : (c : tie.Else1) → isArray (length (now (c .before .before .before .b
 allowed c = sym (c .before .is-array .ensures) ∙ not-false _ (c .if1 .left)
 
 -- the refusal that was found is the judgement's
-refused : (c : tie.After-judge) → judgedIn (now (c .before .before .before .before .before .args .text)) (length (now (c .before .before .before .before .before .args .array))) .refusal ≡ c .judge .result .refusal
+refused : (c : tie.After-judge) → let a = c .before .before .before .before .before .args in judgedIn (now (a .text)) (length (now (a .array))) .refusal ≡ c .judge .result .refusal
 refused c = sym (ap (λ (r : Reading). r .refusal) (c .judge .ensures))
 
 returns : tie.Need-returns
-returns c = size-refused (now (c .before .before .before .before .args .text)) (now (c .before .before .before .before .args .array)) (sym (c .before .is-array .ensures) ∙ not-true _ (c .if1 .taken))
+returns c = let a = c .before .before .before .before .args in size-refused (now (a .text)) (now (a .array)) (sym (c .before .is-array .ensures) ∙ not-true _ (c .if1 .taken))
 
 carry-out-requires : tie.Need-carry-out-requires
 carry-out-requires c κs = refused (c .before .before .before) ∙ c .before .if2 .taken
 
 returns-2 : tie.Need-returns-2
-returns-2 c = (c .before .before .before .before .before .before .judge .ensures ∙ judgement (now (c .before .before .before .before .before .before .before .before .before .before .before .args .text)) _ (allowed (c .before .before .before .before .before .before .before)), c .before .before .carry-out .ensures ∙ text-read (now (c .before .before .before .before .before .before .before .before .before .before .before .args .text)) (now (c .before .before .before .before .before .before .before .before .before .before .before .args .array)) (allowed (c .before .before .before .before .before .before .before)) (refused (c .before .before .before .before .before .before) ∙ c .before .before .before .before .if2 .taken))
+returns-2 c =
+    let a = c .before .before .before .before .before .before .before .before .before .before .before .args in
+    let sized = allowed (c .before .before .before .before .before .before .before) in
+    let good = refused (c .before .before .before .before .before .before) ∙ c .before .before .before .before .if2 .taken in
+    (c .before .before .before .before .before .before .judge .ensures ∙ judgement (now (a .text)) _ sized, c .before .before .carry-out .ensures ∙ text-read (now (a .text)) (now (a .array)) sized good)
 
 returns-3 : tie.Need-returns-3
-returns-3 c = (c .before .before .judge .ensures ∙ judgement (now (c .before .before .before .before .before .before .before .args .text)) _ (allowed (c .before .before .before)), text-refused (now (c .before .before .before .before .before .before .before .args .text)) (now (c .before .before .before .before .before .before .before .args .array)) (allowed (c .before .before .before)) (λ e. c .if2 .left (sym (refused (c .before .before)) ∙ e)))
+returns-3 c =
+    let a = c .before .before .before .before .before .before .before .args in
+    let sized = allowed (c .before .before .before) in (
+      c .before .before .judge .ensures ∙ judgement (now (a .text)) _ sized,
+      text-refused (now (a .text)) (now (a .array)) sized (λ e. c .if2 .left (sym (refused (c .before .before)) ∙ e)),
+    )
 
 pub read-spec : {M : Type 1} → statement M
 read-spec =
