@@ -86,11 +86,11 @@ typedef enum {
     OXTERIN_OUTPUT_LENGTH = 5,     /* the output buffer is shorter than the input */
     OXTERIN_RECORD = 6,            /* more than 60,000,000 busy ticks left, or any in a part that is asleep */
     OXTERIN_DURATION = 7,          /* a duration is 0 or over 60,000,000 */
-    OXTERIN_HEX_MALFORMED = 12,    /* not a colon and the digit pairs its length asks for; 01 with data, 04 without two bytes */
+    OXTERIN_HEX_MALFORMED = 12,    /* a line is no record; or data in 01, other than two bytes in 04 */
     OXTERIN_HEX_CHECKSUM = 13,     /* the checksum is wrong */
     OXTERIN_HEX_KIND = 14,         /* another type than 00, 01 and 04 */
-    OXTERIN_HEX_OUTSIDE = 15,      /* data outside the array, or past its 64 KiB */
-    OXTERIN_HEX_END = 16,          /* no end record, or text after it */
+    OXTERIN_HEX_OUTSIDE = 15,      /* data that do not lie in the array, or cross a border of 64 KiB */
+    OXTERIN_HEX_END = 16,          /* the end record is missing, or something follows it */
     OXTERIN_HEX_ROOM = 17,         /* the text buffer is too short */
     OXTERIN_HEX_ARRAY_LENGTH = 18, /* the array of HEX has neither 131,072 nor 65,536 bytes */
     OXTERIN_UNREAD = 255           /* a mode that does not exist */
@@ -317,15 +317,15 @@ static inline const char *oxterin_refusal_text(oxterin_refusal refusal) {
     case OXTERIN_DURATION:
         return "a duration is 0 or over 60,000,000 ticks";
     case OXTERIN_HEX_MALFORMED:
-        return "a record is not a colon and the digit pairs its length asks for, or is 01 with data or 04 without two bytes";
+        return "a line is no record, by its colon, its digits or its length, or has data in 01 or other than two bytes in 04";
     case OXTERIN_HEX_CHECKSUM:
         return "a record has a wrong checksum";
     case OXTERIN_HEX_KIND:
         return "a record has another type than 00, 01 and 04";
     case OXTERIN_HEX_OUTSIDE:
-        return "a record has data outside the array or past its 64 KiB";
+        return "a record has data that do not lie in the array, or cross a border of 64 KiB";
     case OXTERIN_HEX_END:
-        return "the text has no end record, or goes on after it";
+        return "the end record is missing, or something follows it";
     case OXTERIN_HEX_ROOM:
         return "the text buffer is shorter than the text";
     case OXTERIN_HEX_ARRAY_LENGTH:

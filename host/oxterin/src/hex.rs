@@ -8,15 +8,15 @@ use std::fmt;
 #[derive(Clone, Copy, Debug, PartialEq, Eq, Hash)]
 #[repr(u8)]
 pub enum HexRefusal {
-    /// 12: a record is not a colon and the digit pairs its length asks for, or is 01 with data or 04 without two bytes.
+    /// 12: a line is no record, by its colon, its digits or its length, or has data in 01 or other than two bytes in 04.
     Malformed = 12,
     /// 13: a record has a wrong checksum.
     Checksum = 13,
     /// 14: a record has another type than 00, 01 and 04.
     Kind = 14,
-    /// 15: a record has data outside the array or past its 64 KiB.
+    /// 15: a record has data that do not lie in the array, or cross a border of 64 KiB.
     Outside = 15,
-    /// 16: the text has no end record, or goes on after it.
+    /// 16: the end record is missing, or something follows it.
     End = 16,
     /// 17: the text buffer is shorter than the text.
     Room = 17,
@@ -56,12 +56,12 @@ impl fmt::Display for HexRefusal {
     fn fmt(&self, f: &mut fmt::Formatter<'_>) -> fmt::Result {
         let why = match self {
             HexRefusal::Malformed => {
-                "a record is not a colon and the digit pairs its length asks for, or is 01 with data or 04 without two bytes"
+                "a line is no record, by its colon, its digits or its length, or has data in 01 or other than two bytes in 04"
             }
             HexRefusal::Checksum => "a record has a wrong checksum",
             HexRefusal::Kind => "a record has another type than 00, 01 and 04",
-            HexRefusal::Outside => "a record has data outside the array or past its 64 KiB",
-            HexRefusal::End => "the text has no end record, or goes on after it",
+            HexRefusal::Outside => "a record has data that do not lie in the array, or cross a border of 64 KiB",
+            HexRefusal::End => "the end record is missing, or something follows it",
             HexRefusal::Room => "the text buffer is shorter than the text",
             HexRefusal::ArrayLength => "the array has neither 131,072 nor 65,536 bytes",
         };

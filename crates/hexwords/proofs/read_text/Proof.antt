@@ -9,7 +9,11 @@ use Rattle.hexwords.proofs.Kept.{one-word}
 
 returns : tie.Need-returns
 unfolding textIn
-returns c = rw (eq-eqb _ 1 (c .before .before .before .before .before .if1 .taken), one-word (now (c .before .before .before .before .before .before .before .before .before .args .place)) (c .before .before .before .read .result .place) (c .before .before .before .before .before .if1 .taken), c .wide .ensures, c .before .before .before .read .ensures .0, c .before .before .before .read .ensures .1)
+returns c =
+    let one = c .before .before .before .before .before .if1 .taken in
+    let told = c .before .before .before .read in
+    rw
+    (eq-eqb _ 1 one, one-word (now (c .before .before .before .before .before .before .before .before .before .args .place)) (told .result .place) one, c .wide .ensures, told .ensures .0, told .ensures .1)
 
 returns-2 : tie.Need-returns-2
 unfolding textIn

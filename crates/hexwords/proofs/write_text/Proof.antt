@@ -9,7 +9,11 @@ use Rattle.hexwords.proofs.Kept.{one-word}
 
 returns : tie.Need-returns
 unfolding textOut
-returns c = rw (eq-eqb _ 1 (c .before .before .before .before .before .if1 .taken), one-word (now (c .before .before .before .before .before .before .before .before .before .args .characters)) (c .before .before .before .write .result .characters) (c .before .before .before .before .before .if1 .taken), c .wide .ensures, c .before .before .before .write .ensures .0, c .before .before .before .write .ensures .1)
+returns c =
+    let one = c .before .before .before .before .before .if1 .taken in
+    let told = c .before .before .before .write in
+    rw
+    (eq-eqb _ 1 one, one-word (now (c .before .before .before .before .before .before .before .before .before .args .characters)) (told .result .characters) one, c .wide .ensures, told .ensures .0, told .ensures .1)
 
 returns-2 : tie.Need-returns-2
 unfolding textOut

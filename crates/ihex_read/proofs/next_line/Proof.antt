@@ -45,12 +45,18 @@ shared-slice-read-if2 c = let w = far (c .before .before) in omega arith
 add-result : tie.Need-add-result
 add-result c = let w = far (c .before .before .before) in omega arith
 
-add-result-2 : tie.Need-add-result-2
-add-result-2 c =
+-- where neither the text nor LF is, CR and LF are
+two : (c : tie.Else2) →
+    let a = c .before .before .before .before .before .args in
+    let there = end (c .before .before .before) in
+    (placeOf 1 (drop there (now (a .text))) ≡ 2) × (there + 2 ≤ length (now (a .text)))
+two c =
     let a = c .before .before .before .before .before .args in
     let w = far (c .before .before .before) in
-    let e = ending-CR (now (a .text)) (end (c .before .before .before)) (omega arith) (w .1) (ne-eqb _ _ (c .if2 .left)) in
-    omega arith
+    ending-CR (now (a .text)) (end (c .before .before .before)) (omega arith) (w .1) (ne-eqb _ _ (c .if2 .left))
+
+add-result-2 : tie.Need-add-result-2
+add-result-2 c = let e = two c in omega arith
 
 returns-2 : tie.Need-returns-2
 returns-2 c =
@@ -60,9 +66,8 @@ returns-2 c =
 
 returns-3 : tie.Need-returns-3
 returns-3 c =
-    let a = c .before .before .before .before .before .args in
     let w = far (c .before .before .before) in
-    let e = ending-CR (now (a .text)) (end (c .before .before .before)) (omega arith) (w .1) (ne-eqb _ _ (c .if2 .left)) in
+    let e = two c in
     omega arith
 
 pub next-line-spec : {M : Type 1} → statement M
