@@ -1,6 +1,6 @@
 -- The face of Intel HEX: what the two functions answer to a caller that has only numbers and memories. Assumes nothing.
 use Prim.Native.Nat.{ℕ}
-use mathlib.Core.Bool.{Bool, cond}
+use mathlib.Core.Bool.{cond}
 use mathlib.Core.List.{List, [], _∷_}
 use lib.Dec.{eqb}
 use lib.ListN.{length}
@@ -16,16 +16,18 @@ pub record Spoken : Type 0 where
 abbrev pub spoken : ℕ → List ℕ → List ℕ → Spoken
 spoken number word memory = record { number = number; word = word; memory = memory }
 
--- one word is lent for the answer; any other number of words is answered with 255, and all is as it was
-abbrev pub isWord : List ℕ → Bool
-isWord word = eqb (length word) 1
+-- one word is lent for the answer, which becomes that word; any other number of words is answered with 255, and all is as it was
+unfoldable pub answered : List ℕ → Spoken → Spoken → Spoken
+answered word answer before = cond (eqb (length word) 1) answer before
 
 -- an array as text: the refusal, how many characters were written, and the lent text
 unfoldable pub textOut : List ℕ → List ℕ → List ℕ → Spoken
 textOut array text word =
-    cond (isWord word) (spoken (writtenOf array (length text) .refusal) (writtenOf array (length text) .characters ∷ []) (outputOf array text)) (spoken 255 word text)
+    let w = writtenOf array (length text) in
+    answered word (spoken (w .refusal) (w .characters ∷ []) (outputOf array text)) (spoken 255 word text)
 
 -- a text into an array: the refusal, the place where the faulty record begins, and the lent array
 unfoldable pub textIn : List ℕ → List ℕ → List ℕ → Spoken
 textIn text array word =
-    cond (isWord word) (spoken (readingOf text (length array) .refusal) (readingOf text (length array) .place ∷ []) (arrayOf text array)) (spoken 255 word array)
+    let r = readingOf text (length array) in
+    answered word (spoken (r .refusal) (r .place ∷ []) (arrayOf text array)) (spoken 255 word array)

@@ -2,11 +2,12 @@
 use mathlib.Core.Path.{refl}
 use Rattle.cells.specs.Each.{eachFrom, each, over}
 use Rattle.ihex_write.specs.Layout.{digits, sum, recordLine, digitOf, byteAt, sumOf}
-use Rattle.ihex_read.specs.Reader.{behind, linesIn, placeOf, pairs, isWhole, faultOf, ended, judged, obeyed, carried}
+use Rattle.ihex_write.specs.Writer.{writtenOf}
+use Rattle.ihex_read.specs.Reader.{behind, linesIn, placeOf, pairs, isWhole, faultOf, ended, judged, obeyed, carried, readingOf}
 use Rattle.ihex.specs.Worked.{characters, Worked}
 
 pub worked : Worked
-unfolding eachFrom each over digits sum recordLine digitOf byteAt sumOf behind linesIn placeOf pairs isWhole faultOf ended judged obeyed carried characters
+unfolding eachFrom each over digits sum recordLine digitOf byteAt sumOf behind linesIn placeOf pairs isWhole faultOf ended judged obeyed carried readingOf writtenOf characters
 worked =
     record {
       the-end = refl;
@@ -23,6 +24,8 @@ worked =
       wrong-sum = refl;
       wrong-sum-first = refl;
       other-type = refl;
+      other-type-bare = refl;
+      addresses-unjudged = refl;
       past-64-KiB = refl;
       outside-array = refl;
       no-data = refl;
@@ -31,4 +34,6 @@ worked =
       no-end-place = refl;
       text-behind = refl;
       text-behind-place = refl;
+      size-first = refl;
+      size-before-room = refl;
     }

@@ -6,7 +6,8 @@ use mathlib.Core.List.{List, _++_, [] as nothing, _∷_ as _then_}
 use mathlib.Core.Path.{_≡_}
 use lib.ListN.{replicate}
 use Rattle.ihex_write.specs.Layout.{recordLine}
-use Rattle.ihex_read.specs.Reader.{Verdict, verdict, linesIn, placeOf, judgedIn, carried}
+use Rattle.ihex_write.specs.Writer.{written, writtenOf}
+use Rattle.ihex_read.specs.Reader.{Verdict, verdict, linesIn, placeOf, judgedIn, carried, reading, readingOf}
 
 -- the characters of a text
 unfoldable pub characters : String → List ℕ
@@ -42,6 +43,9 @@ pub record Worked : Type 0 where
   pub wrong-sum-first : judgement ":020000021000EB\n" ≡ verdict 13 0
   -- 14: an extended segment address
   pub other-type : judgement ":020000021000EC\n" ≡ verdict 14 0
+  -- the length of another type is not judged, nor the addresses of an end record and an upper part
+  pub other-type-bare : judgement ":00000002FE\n" ≡ verdict 14 0
+  pub addresses-unjudged : judgement ":021234040000B4\n:00123401B9\n" ≡ verdict 0 0
   -- 15: two bytes at FFFFh, though the large array has both; one byte at 10000h of the small one; a record without data is good anywhere
   pub past-64-KiB : judgedIn (characters ":02FFFF00000000\n") 131072 ≡ verdict 15 0
   pub outside-array : judgement ":020000040001F9\n:0100000000FF\n:00000001FF\n" ≡ verdict 15 1
@@ -52,3 +56,6 @@ pub record Worked : Type 0 where
   pub no-end-place : place 1 ":0000000000\n" ≡ 12
   pub text-behind : judgement ":00000001FF\r\n\n" ≡ verdict 16 1
   pub text-behind-place : place 1 ":00000001FF\r\n\n" ≡ 13
+  -- 18, before all others: no text at all for an array one byte short; no room for the text of an empty array
+  pub size-first : readingOf (characters "") 65535 ≡ reading 18 0
+  pub size-before-room : writtenOf nothing 0 ≡ written 18 0
