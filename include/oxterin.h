@@ -16,6 +16,9 @@
  * anything else that the same call is handed. A null array, register, input, output or text counts as one of length 0; record, settings,
  * answer, characters and place are never null.
  *
+ * Time passes only in ticks that a call brings: those elapsed before its frame, and those that each byte position of the frame takes. Who
+ * fills oxterin_signals field by field sets ticks_per_byte too: 0 is a frame that takes no time.
+ *
  * C11 or C++17; needs nothing but this file and the library.
  */
 #ifndef OXTERIN_H
@@ -30,13 +33,16 @@ extern "C" {
 #endif
 
 /* The version of this header; oxterin_version() is the library's. A million for the first number, a thousand for the second. */
-#define OXTERIN_VERSION 1001000
+#define OXTERIN_VERSION 1002000
 
 /* Lengths in bytes. */
 #define OXTERIN_ARRAY 131072u      /* the AT25XE011's own array */
 #define OXTERIN_SMALL_ARRAY 65536u /* also accepted */
 #define OXTERIN_REGISTER 128u      /* the security register */
 #define OXTERIN_MOST_BYTES 8192u   /* a frame has no more */
+
+/* A byte position takes no more ticks. */
+#define OXTERIN_MOST_TICKS_PER_BYTE 1000u
 
 /* Lengths in characters of an array's content as Intel HEX text, as it is written. A text that is read may have any length. */
 #define OXTERIN_HEX_TEXT 360492u       /* of OXTERIN_ARRAY */
@@ -70,13 +76,14 @@ typedef struct {
 
 /* What goes with the bytes of a frame. */
 typedef struct {
-    uint64_t bits;    /* bits clocked while chip select was low */
-    bool wp_high;     /* the level of WP during the whole frame */
-    uint64_t elapsed; /* ticks elapsed since the call before */
+    uint64_t bits;           /* bits clocked while chip select was low */
+    bool wp_high;            /* the level of WP during the whole frame */
+    uint64_t elapsed;        /* ticks elapsed since the call before, up to the frame's first bit */
+    uint64_t ticks_per_byte; /* ticks that each byte position takes, a partial last one too; at most 1,000 */
 } oxterin_signals;
 
-/* Why a call was refused. Record, memories, output and text are then as they were, and the elapsed ticks do not count. A frame has the
- * refusals 1 to 7; writing HEX has 17 and 18, reading it 12 to 16 and 18. */
+/* Why a call was refused. Record, memories, output and text are then as they were, and neither elapsed nor frame ticks count. A frame has
+ * the refusals 1 to 8; writing HEX has 17 and 18, reading it 12 to 16 and 18. */
 typedef enum {
     OXTERIN_ACCEPTED = 0,
     OXTERIN_ARRAY_LENGTH = 1,      /* the array has neither 131,072 nor 65,536 bytes */
@@ -86,6 +93,7 @@ typedef enum {
     OXTERIN_OUTPUT_LENGTH = 5,     /* the output buffer is shorter than the input */
     OXTERIN_RECORD = 6,            /* more than 60,000,000 busy ticks left, or any in a part that is asleep */
     OXTERIN_DURATION = 7,          /* a duration is 0 or over 60,000,000 */
+    OXTERIN_TICKS_PER_BYTE = 8,    /* more than 1,000 ticks per byte position */
     OXTERIN_HEX_MALFORMED = 12,    /* a line is no record; or data in 01, other than two bytes in 04 */
     OXTERIN_HEX_CHECKSUM = 13,     /* the checksum is wrong */
     OXTERIN_HEX_KIND = 14,         /* another type than 00, 01 and 04 */
@@ -122,10 +130,11 @@ typedef struct {
 
 /* The library's own functions, on words. The functions further below are easier to use.
  *
- * A record is 7 words (BPL, BP0, WEL, RSTE, OTP used, mode, busy ticks), the settings are 8, the signals 3 (bits, WP, ticks), an answer
- * 3 (outcome, first, driven), a status 2 bytes, the place of a look 2 (start, length), the characters and the place of HEX 1. Another
- * length, a flag that is neither 0 nor 1, or a mode or memory that does not exist is answered with 255, and then nothing has changed. No
- * pointer may be null. */
+ * A record is 7 words (BPL, BP0, WEL, RSTE, OTP used, mode, busy ticks), the settings are 8, the signals 4 (bits, WP, ticks elapsed, ticks
+ * per byte position), an answer 3 (outcome, first, driven), a status 2 bytes, the place of a look 2 (start, length), the characters and the
+ * place of HEX 1. Signals of 3 words, without the last, are accepted too, from callers built for version 1.1.0, and mean 0 ticks per byte
+ * position. Another length, a flag that is neither 0 nor 1, or a mode or memory that does not exist is answered with 255, and then nothing
+ * has changed. No pointer may be null. */
 uint64_t oxterin_version(void);
 uint64_t oxterin_fresh(uint64_t bpl, uint64_t bp0, uint64_t otp_used, uint64_t *record, size_t record_length);
 uint64_t oxterin_typical(uint64_t *settings, size_t settings_length);
@@ -187,12 +196,13 @@ static inline oxterin_settings oxterin_typical_settings(void) {
     return settings;
 }
 
-/* The signals of a frame of whole bytes with WP high. */
+/* The signals of a frame of whole bytes with WP high that takes no time. */
 static inline oxterin_signals oxterin_whole_bytes(size_t bytes, uint64_t elapsed) {
     oxterin_signals signals;
     signals.bits = 8 * (uint64_t)bytes;
     signals.wp_high = true;
     signals.elapsed = elapsed;
+    signals.ticks_per_byte = 0;
     return signals;
 }
 
@@ -229,7 +239,11 @@ static inline oxterin_part oxterin_look_at(const uint8_t *array, size_t array_le
 }
 
 /* One chip-select frame. The record becomes what the part then remembers, and of the output the first input_length bytes are written.
- * The answer says what became of the frame. After a refused call it says nothing, 0 and 0, and all else is as it was. */
+ * The answer says what became of the frame. After a refused call it says nothing, 0 and 0, and all else is as it was.
+ *
+ * Position k, counted from 0, begins k * ticks_per_byte ticks after the frame's first bit. Each status byte of 05h shows busy as at the
+ * first bit of its own position; whether the part is too busy to hear the frame is settled at the frame's first bit, and an operation that
+ * the frame begins starts at the rise of chip select. */
 static inline oxterin_refusal oxterin_send_frame(oxterin_record *record, const oxterin_settings *settings, oxterin_signals signals,
                                                  uint8_t *array, size_t array_length, uint8_t *security, size_t security_length,
                                                  const uint8_t *input, size_t input_length, uint8_t *output, size_t output_length,
@@ -237,11 +251,11 @@ static inline oxterin_refusal oxterin_send_frame(oxterin_record *record, const o
     uint64_t device[7];
     uint64_t told[3] = {0, 0, 0};
     uint64_t number;
-    const uint64_t levels[3] = {signals.bits, signals.wp_high, signals.elapsed};
+    const uint64_t levels[4] = {signals.bits, signals.wp_high, signals.elapsed, signals.ticks_per_byte};
     const uint64_t durations[8] = {settings->byte_program, settings->longer_program, settings->page_erase,  settings->erase_4k,
                                    settings->erase_32k,    settings->chip_erase,     settings->otp_program, settings->status_write};
     oxterin_pack_record(record, device);
-    number = oxterin_frame(device, 7, durations, 8, levels, 3, array ? array : oxterin_nowhere(),
+    number = oxterin_frame(device, 7, durations, 8, levels, 4, array ? array : oxterin_nowhere(),
                            oxterin_length_of(array, array_length), security ? security : oxterin_nowhere(),
                            oxterin_length_of(security, security_length), input ? input : oxterin_nowhere(),
                            oxterin_length_of(input, input_length), output ? output : oxterin_nowhere(),
@@ -316,6 +330,8 @@ static inline const char *oxterin_refusal_text(oxterin_refusal refusal) {
         return "the record has more than 60,000,000 busy ticks left, or any while asleep";
     case OXTERIN_DURATION:
         return "a duration is 0 or over 60,000,000 ticks";
+    case OXTERIN_TICKS_PER_BYTE:
+        return "more than 1,000 ticks per byte position";
     case OXTERIN_HEX_MALFORMED:
         return "a line is no record, by its colon, its digits or its length, or has data in 01 or other than two bytes in 04";
     case OXTERIN_HEX_CHECKSUM:

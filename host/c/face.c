@@ -24,10 +24,21 @@ static uint8_t text[OXTERIN_HEX_TEXT + 1];
 static size_t characters;
 static size_t place;
 
-/* A frame of whole bytes on the memories above. */
+/* A frame on the memories above. */
+static oxterin_refusal send_with(const uint8_t *input, size_t length, oxterin_signals signals) {
+    return oxterin_send_frame(&record, &settings, signals, array, sizeof array, security, sizeof security, input, length, output,
+                              sizeof output, &answer);
+}
+
+/* A frame of whole bytes that takes no time. */
 static oxterin_refusal send_bytes(const uint8_t *input, size_t length, uint64_t elapsed) {
-    return oxterin_send_frame(&record, &settings, oxterin_whole_bytes(length, elapsed), array, sizeof array, security, sizeof security,
-                              input, length, output, sizeof output, &answer);
+    return send_with(input, length, oxterin_whole_bytes(length, elapsed));
+}
+
+/* A frame of so many bits whose byte positions take ticks, WP high. */
+static oxterin_refusal send_slowly(const uint8_t *input, size_t length, uint64_t bits, uint64_t elapsed, uint64_t ticks_per_byte) {
+    const oxterin_signals signals = {bits, true, elapsed, ticks_per_byte};
+    return send_with(input, length, signals);
 }
 
 static void start(void) {
@@ -44,6 +55,7 @@ static void records_and_settings(void) {
     CHECK(settings.byte_program == 12 && settings.longer_program == 2000 && settings.page_erase == 7000 && settings.erase_4k == 50000);
     CHECK(settings.erase_32k == 400000 && settings.chip_erase == 1600000 && settings.otp_program == 400 && settings.status_write == 20000);
     CHECK(!record.wel && !record.rste && record.mode == OXTERIN_AWAKE && record.busy == 0);
+    CHECK(oxterin_whole_bytes(3, 7).bits == 24 && oxterin_whole_bytes(3, 7).elapsed == 7 && oxterin_whole_bytes(3, 7).ticks_per_byte == 0);
     record = oxterin_fresh_record(true, true, false);
     CHECK(record.bpl && record.bp0 && !record.otp_used);
     CHECK(oxterin_status_bytes(&record, true) == 0x0094 && oxterin_status_bytes(&record, false) == 0x0084);
@@ -66,9 +78,79 @@ static void program_and_poll(void) {
     CHECK(record.busy == 1999);
 }
 
+/* Whether the output is these five bytes and nothing behind them. */
+static bool five_read(uint8_t a, uint8_t b, uint8_t c, uint8_t d, uint8_t e) {
+    const uint8_t wanted[] = {a, b, c, d, e, 0xEE};
+    return memcmp(output, wanted, sizeof wanted) == 0;
+}
+
+static void busy_falls_inside_a_frame(void) {
+    const uint8_t poll[] = {0x05, 0x00, 0x00, 0x00, 0x00};
+    const uint8_t read[] = {0x03, 0x00, 0x00, 0x00, 0x00};
+    start();
+    record.busy = 20; /* at 8 and 16 ticks still busy, at 24 and 32 idle */
+    CHECK(send_slowly(poll, 5, 40, 0, 8) == OXTERIN_ACCEPTED && answer.outcome == OXTERIN_READ);
+    CHECK(answer.first == 1 && answer.driven == 4 && five_read(0xFF, 0x11, 0x01, 0x10, 0x00) && record.busy == 0);
+    record.busy = 20; /* 4 elapse first, so that the 16 left have passed as position 2 begins */
+    CHECK(send_slowly(poll, 5, 40, 4, 8) == OXTERIN_ACCEPTED && five_read(0xFF, 0x11, 0x00, 0x10, 0x00) && record.busy == 0);
+    record.busy = 41; /* five positions take 40 */
+    CHECK(send_slowly(poll, 5, 40, 0, 8) == OXTERIN_ACCEPTED && five_read(0xFF, 0x11, 0x01, 0x11, 0x01) && record.busy == 1);
+    record.busy = 41; /* so do 33 bits; of the last byte only the highest bit is clocked */
+    CHECK(send_slowly(poll, 5, 33, 0, 8) == OXTERIN_ACCEPTED && five_read(0xFF, 0x11, 0x01, 0x11, 0x7F) && record.busy == 1);
+    record.busy = 1; /* at the first bit, which settles that the read is not heard */
+    CHECK(send_slowly(read, 5, 40, 0, 8) == OXTERIN_ACCEPTED && answer.outcome == OXTERIN_NOTHING && record.busy == 0);
+}
+
+static void an_operation_starts_at_the_rise(void) {
+    const uint8_t enable[] = {0x06};
+    const uint8_t program[] = {0x02, 0x00, 0x00, 0x00, 0x5A};
+    start();
+    CHECK(send_bytes(enable, 1, 0) == OXTERIN_ACCEPTED);
+    CHECK(send_slowly(program, 5, 40, 0, 1000) == OXTERIN_ACCEPTED && answer.outcome == OXTERIN_BEGUN && record.busy == 12);
+}
+
+static void most_ticks_per_byte(void) {
+    const uint8_t poll[] = {0x05, 0x00};
+    start();
+    record.busy = 3000;
+    CHECK(send_slowly(poll, 2, 16, 9, 1001) == OXTERIN_TICKS_PER_BYTE && record.busy == 3000 && output[0] == 0xEE);
+    CHECK(send_slowly(poll, 2, 16, 9, UINT64_MAX) == OXTERIN_TICKS_PER_BYTE && record.busy == 3000 && output[0] == 0xEE);
+    settings.status_write = 0;
+    CHECK(send_slowly(poll, 2, 16, 9, 1001) == OXTERIN_DURATION);
+    settings.status_write = 20000;
+    CHECK(send_slowly(poll, 2, 16, 9, OXTERIN_MOST_TICKS_PER_BYTE) == OXTERIN_ACCEPTED && record.busy == 991);
+    CHECK(send_slowly(poll, 2, 16, UINT64_MAX, 1000) == OXTERIN_ACCEPTED && record.busy == 0);
+    CHECK(strcmp(oxterin_refusal_text(OXTERIN_TICKS_PER_BYTE), "more than 1,000 ticks per byte position") == 0);
+}
+
+/* A poll by the function on words, handed so many words of its signals, of which 4 ticks elapse and 8 go with each byte position. */
+static uint64_t poll_by_words(uint64_t device[7], size_t words, uint64_t told[3]) {
+    const uint8_t poll[] = {0x05, 0x00, 0x00};
+    const uint64_t durations[8] = {1, 1, 1, 1, 1, 1, 1, 1};
+    const uint64_t signals[5] = {24, 1, 4, 8, 0};
+    return oxterin_frame(device, 7, durations, 8, signals, words, array, sizeof array, security, sizeof security, poll, sizeof poll,
+                         output, sizeof output, told, 3);
+}
+
+/* Signals of four words, or of the three of version 1.1.0; with another count nothing is read, and nothing written. */
+static void signals_by_words(void) {
+    const uint64_t untouched[7] = {0, 0, 1, 0, 0, 0, 20};
+    uint64_t device[7] = {0, 0, 1, 0, 0, 0, 20};
+    uint64_t told[3] = {77, 78, 79};
+    start();
+    CHECK(poll_by_words(device, 2, told) == OXTERIN_UNREAD && poll_by_words(device, 5, told) == OXTERIN_UNREAD);
+    CHECK(memcmp(device, untouched, sizeof device) == 0 && told[0] == 77 && told[1] == 78 && told[2] == 79);
+    CHECK(output[0] == 0xEE && output[1] == 0xEE && output[2] == 0xEE);
+    CHECK(poll_by_words(device, 3, told) == 0 && device[6] == 16 && told[0] == OXTERIN_READ && told[1] == 1 && told[2] == 2);
+    CHECK(output[0] == 0xFF && output[1] == 0x13 && output[2] == 0x01);
+    device[6] = 20;
+    CHECK(poll_by_words(device, 4, told) == 0 && device[6] == 0 && told[0] == OXTERIN_READ && told[1] == 1 && told[2] == 2);
+    CHECK(output[0] == 0xFF && output[1] == 0x13 && output[2] == 0x00);
+}
+
 static void refusals(void) {
     const uint8_t poll[] = {0x05, 0x00};
-    oxterin_signals odd = {17, true, 0};
+    oxterin_signals odd = {17, true, 0, 0};
     start();
     record.wel = true;
     answer.driven = 77;
@@ -226,6 +308,10 @@ static void hex_words(void) {
 int main(void) {
     records_and_settings();
     program_and_poll();
+    busy_falls_inside_a_frame();
+    an_operation_starts_at_the_rise();
+    most_ticks_per_byte();
+    signals_by_words();
     refusals();
     looks();
     hex_written();

@@ -22,7 +22,7 @@ passed true n m e = absurd (omega arith)
 passed false n m e = (refl, e)
 
 -- what is known of an accepted call
-pub record Accepted (d : Device) (s : Settings) (bits : ℕ) (lengths : Lengths) : Type 0 where
+pub record Accepted (d : Device) (s : Settings) (bits pace : ℕ) (lengths : Lengths) : Type 0 where
   pub array : isArray (lengths .array) ≡ true
   pub register : lengths .register ≡ 128
   pub short : lengths .input ≤ 8192
@@ -30,10 +30,11 @@ pub record Accepted (d : Device) (s : Settings) (bits : ℕ) (lengths : Lengths)
   pub room : lengths .input ≤ lengths .output
   pub sound : unsound d ≡ false
   pub fair : anyUnfair (s .ticks) ≡ false
+  pub quick : pace ≤ 1000
 
-pub accepted : (d : Device) (s : Settings) (bits : ℕ) (lengths : Lengths) → refusalOf d s bits lengths ≡ 0 → Accepted d s bits lengths
+pub accepted : (d : Device) (s : Settings) (bits pace : ℕ) (lengths : Lengths) → refusalOf d s bits pace lengths ≡ 0 → Accepted d s bits pace lengths
 unfolding refusalOf
-accepted d s bits lengths e =
+accepted d s bits pace lengths e =
     let one = passed _ _ _ e in
     let two = passed _ _ _ (one .1) in
     let three = passed _ _ _ (two .1) in
@@ -41,6 +42,7 @@ accepted d s bits lengths e =
     let five = passed _ _ _ (four .1) in
     let six = passed _ _ _ (five .1) in
     let seven = passed _ _ _ (six .1) in
+    let eight = passed _ _ _ (seven .1) in
     record {
       array = not-false _ (one .0);
       register = register-long (lengths .register) (not-false _ (two .0));
@@ -49,4 +51,5 @@ accepted d s bits lengths e =
       room = ltb-false _ _ (five .0);
       sound = six .0;
       fair = seven .0;
+      quick = ltb-false _ _ (eight .0);
     }

@@ -27,7 +27,8 @@ refusalAt n =
     (cond (eqb n 4) Refusal.BitCount
     (cond (eqb n 5) Refusal.OutputLength
     (cond (eqb n 6) Refusal.Record
-    Refusal.Duration))))))
+    (cond (eqb n 7) Refusal.Duration
+    Refusal.Pace)))))))
 
 back : (r : Refusal) → refusalAt (numberOf r) ≡ r
 unfolding refusalAt
@@ -39,24 +40,27 @@ back Refusal.BitCount = refl
 back Refusal.OutputLength = refl
 back Refusal.Record = refl
 back Refusal.Duration = refl
+back Refusal.Pace = refl
 
 pub number-tells : (a b : Refusal) → numberOf a ≡ numberOf b → a ≡ b
 number-tells = tells numberOf refusalAt back
 
-pub has-refusal : (d : Device) (s : Settings) (bits : ℕ) (lengths : Lengths) → numberOf (refusalAt (refusalOf d s bits lengths)) ≡ refusalOf d s bits lengths
+pub has-refusal : (d : Device) (s : Settings) (bits pace : ℕ) (lengths : Lengths)
+    → numberOf (refusalAt (refusalOf d s bits pace lengths)) ≡ refusalOf d s bits pace lengths
 unfolding refusalAt refusalOf
-has-refusal d s bits lengths =
+has-refusal d s bits pace lengths =
     by (not (isArray (lengths .array))) (not (isRegister (lengths .register))) (ltb 8192 (lengths .input)) (not (eqb (bytesFor bits) (lengths .input)))
-    (ltb (lengths .output) (lengths .input)) (unsound d) (anyUnfair (s .ticks))
+    (ltb (lengths .output) (lengths .input)) (unsound d) (anyUnfair (s .ticks)) (ltb 1000 pace)
   where
-    by : (a b c e f g h : Bool)
-        → numberOf (refusalAt (cond a 1 (cond b 2 (cond c 3 (cond e 4 (cond f 5 (cond g 6 (cond h 7 0))))))))
-        ≡ cond a 1 (cond b 2 (cond c 3 (cond e 4 (cond f 5 (cond g 6 (cond h 7 0))))))
-    by true b c e f g h = refl
-    by false true c e f g h = refl
-    by false false true e f g h = refl
-    by false false false true f g h = refl
-    by false false false false true g h = refl
-    by false false false false false true h = refl
-    by false false false false false false true = refl
-    by false false false false false false false = refl
+    by : (a b c e f g h i : Bool)
+        → numberOf (refusalAt (cond a 1 (cond b 2 (cond c 3 (cond e 4 (cond f 5 (cond g 6 (cond h 7 (cond i 8 0)))))))))
+        ≡ cond a 1 (cond b 2 (cond c 3 (cond e 4 (cond f 5 (cond g 6 (cond h 7 (cond i 8 0)))))))
+    by true b c e f g h i = refl
+    by false true c e f g h i = refl
+    by false false true e f g h i = refl
+    by false false false true f g h i = refl
+    by false false false false true g h i = refl
+    by false false false false false true h i = refl
+    by false false false false false false true i = refl
+    by false false false false false false false true = refl
+    by false false false false false false false false = refl

@@ -1,5 +1,5 @@
--- The refusals: their numbers, and when each is given. They see lengths, the record and the settings, and never a byte that is lent.
--- Assumes nothing.
+-- The refusals: their numbers, and when each is given. They see lengths, the record, the settings, the bits clocked and the ticks per byte
+-- position, and never a byte that is lent. Assumes nothing.
 use Prim.Native.Nat.{ℕ, _+_, _/_}
 use mathlib.Core.Bool.{Bool, cond, not}
 use lib.Dec.{ltb, eqb}
@@ -21,6 +21,7 @@ numberOf Refusal.BitCount = 4
 numberOf Refusal.OutputLength = 5
 numberOf Refusal.Record = 6
 numberOf Refusal.Duration = 7
+numberOf Refusal.Pace = 8
 
 -- the security register's length
 abbrev pub isRegister : ℕ → Bool
@@ -30,9 +31,9 @@ isRegister length = eqb length 128
 abbrev pub bytesFor : ℕ → ℕ
 bytesFor bits = (bits + 7) / 8
 
--- the number of the refusal, the lowest first; 0 if the call is accepted
-unfoldable pub refusalOf : Device → Settings → ℕ → Lengths → ℕ
-refusalOf d s bits lengths =
+-- the number of the refusal, the lowest first; 0 if the call is accepted. The pace is the ticks per byte position.
+unfoldable pub refusalOf : Device → Settings → ℕ → ℕ → Lengths → ℕ
+refusalOf d s bits pace lengths =
     cond (not (isArray (lengths .array))) 1
     (cond (not (isRegister (lengths .register))) 2
     (cond (ltb 8192 (lengths .input)) 3
@@ -40,4 +41,5 @@ refusalOf d s bits lengths =
     (cond (ltb (lengths .output) (lengths .input)) 5
     (cond (unsound d) 6
     (cond (anyUnfair (s .ticks)) 7
-    0))))))
+    (cond (ltb 1000 pace) 8
+    0)))))))

@@ -15,6 +15,7 @@ pub enum Refusal {
     OutputLength,
     Record,
     Duration,
+    Pace,
 }
 
 impl Refusal {
@@ -31,6 +32,7 @@ impl Refusal {
             Refusal::OutputLength => 5,
             Refusal::Record => 6,
             Refusal::Duration => 7,
+            Refusal::Pace => 8,
         }
     }
 }
@@ -45,6 +47,9 @@ pub struct Lengths {
 
 // The most bytes that a frame may have.
 const MOST: usize = 8192;
+
+// The most ticks that a byte position may take.
+const SLOWEST: u64 = 1000;
 
 // Whether a security register of that length is the part's.
 pub(crate) fn is_register(length: usize) -> bool
@@ -61,8 +66,14 @@ fn bytes_for(bits: u64) -> u64
 }
 
 // Why a call is refused, by the lowest number that applies.
-pub fn refusal_of(device: Device, settings: Settings, bits: u64, lengths: Lengths) -> Refusal
-    ensures { λ r. ⌜ numberOf r ≡ refusalOf device settings bits lengths ⌝ }
+pub fn refusal_of(
+    device: Device,
+    settings: Settings,
+    bits: u64,
+    pace: u64,
+    lengths: Lengths,
+) -> Refusal
+    ensures { λ r. ⌜ numberOf r ≡ refusalOf device settings bits pace lengths ⌝ }
 {
     if !is_array(lengths.array) {
         return Refusal::ArrayLength;
@@ -84,6 +95,9 @@ pub fn refusal_of(device: Device, settings: Settings, bits: u64, lengths: Length
     }
     if settings.is_unfair() {
         return Refusal::Duration;
+    }
+    if SLOWEST < pace {
+        return Refusal::Pace;
     }
     Refusal::Accepted
 }

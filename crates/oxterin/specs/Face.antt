@@ -12,9 +12,9 @@ use Rattle.lent.specs.Look.{startIn, lookedAt}
 use Rattle.part.specs.Frame.{Call, Lent, Result, call, frame}
 use Rattle.packing.specs.Packing.{isFlag, flagOf, memoryOf, packed, isRecord, deviceOf, isSettings, settingsOf, isSignals, signalsOf, isAnswer, answerOf}
 
--- 1.1.0: a million for the first number, a thousand for the second
+-- 1.2.0: a million for the first number, a thousand for the second
 abbrev pub version : ℕ
-version = 1001000
+version = 1002000
 
 -- a fresh record
 abbrev pub isFresh : ℕ → ℕ → ℕ → ℕ → Bool

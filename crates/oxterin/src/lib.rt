@@ -36,7 +36,7 @@ ghost use Rattle.packing.specs.Packing.{packed, isSettings, answerOf, numberIf,
 pub extern "C" fn oxterin_version() -> u64
     ensures { λ r. ⌜ r ≡ face.version ⌝ }
 {
-    1001000
+    1002000
 }
 
 // A fresh record, from BPL, BP0 and the OTP-used mark.

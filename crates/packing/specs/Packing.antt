@@ -2,7 +2,7 @@
 -- theirs. Assumes nothing.
 use Prim.Native.Nat.{ℕ, suc}
 use Prim.Native.String.{String}
-use mathlib.Core.Bool.{Bool, cond, _&&_}
+use mathlib.Core.Bool.{Bool, cond, _&&_, _||_}
 use mathlib.Core.List.{List, [], _∷_}
 use lib.Dec.{ltb, eqb}
 use lib.ListN.{length, getD}
@@ -73,12 +73,12 @@ settingsOf ws =
           getD ws 0 0 ∷ getD ws 1 0 ∷ getD ws 2 0 ∷ getD ws 3 0 ∷ getD ws 4 0 ∷ getD ws 5 0 ∷ getD ws 6 0 ∷ getD ws 7 0 ∷ [];
     }
 
--- the signals, three words: the bits clocked, WP's level, the ticks elapsed
+-- the signals, four words: the bits clocked, WP's level, the ticks elapsed, the ticks per byte position; of three words the last is 0
 abbrev pub isSignals : List ℕ → Bool
-isSignals ws = eqb (length ws) 3 && isFlag (getD ws 1 0)
+isSignals ws = (eqb (length ws) 3 || eqb (length ws) 4) && isFlag (getD ws 1 0)
 
 abbrev pub signalsOf : List ℕ → Signals
-signalsOf ws = record { bits = getD ws 0 0; wp = flagOf (getD ws 1 0); elapsed = getD ws 2 0 }
+signalsOf ws = record { bits = getD ws 0 0; wp = flagOf (getD ws 1 0); elapsed = getD ws 2 0; pace = getD ws 3 0 }
 
 -- an outcome is its word's place among the words, in document 01's order
 unfoldable pub placeOf : String → List String → ℕ

@@ -164,11 +164,11 @@ pub fn settings_of(words: &[u64]) -> Settings
     }
 }
 
-// Whether these words are a frame's signals.
+// Whether these words are a frame's signals; a caller that knows of no ticks per byte position has three.
 pub fn is_signals(words: &[u64]) -> bool
     ensures { λ r. ⌜ r ≡ isSignals (now (words .entry)) ⌝ }
 {
-    (words.len() == 3) & (word(words, 1) < 2)
+    ((words.len() == 3) | (words.len() == 4)) & (word(words, 1) < 2)
 }
 
 pub fn signals_of(words: &[u64]) -> Signals
@@ -178,6 +178,7 @@ pub fn signals_of(words: &[u64]) -> Signals
         bits: word(words, 0),
         wp: word(words, 1) == 1,
         elapsed: word(words, 2),
+        pace: word(words, 3),
     }
 }
 

@@ -72,7 +72,7 @@ not-accepted c lengths n = ne-eqb (numberFor c lengths) 0 (λ e. n (refusal-is c
 -- the number of a call is that of a refusal
 pub numbered : (c : Call) (lengths : Lengths) → numberOf (refusalAt (numberFor c lengths)) ≡ numberFor c lengths
 unfolding numberFor
-numbered c lengths = has-refusal (c .device) (c .settings) (c .signals .bits) lengths
+numbered c lengths = has-refusal (c .device) (c .settings) (c .signals .bits) (c .signals .pace) lengths
 
 -- and there is one
 pub answerOf : Call → Lengths → Answer

@@ -14,14 +14,14 @@ use Rattle.sheet.proofs.Begins.{exactly-when}
 use Rattle.sheet.proofs.Leaves.{as-asked}
 use Rattle.part.specs.Words.{wordOf}
 use Rattle.part.specs.Operations.{cellOf, onArray}
-use Rattle.part.specs.Frame.{Call, Lent, lengthsOf, numberFor, timed, factsOf, judgedOf, replied, frame}
+use Rattle.part.specs.Frame.{Call, Lent, lengthsOf, numberFor, risen, factsOf, judgedOf, replied, frame}
 use Rattle.part.specs.Effect.{takesEffect, operationOf}
 
 module _ (c : Call) (m : Lent) where
   -- judging begins an operation on the array when the frame is ready
-  begins : changesArray (judgedOf c .action) ≡ ready (timed c) (factsOf c)
+  begins : changesArray (judgedOf c .action) ≡ ready (risen c) (factsOf c)
   unfolding judgedOf
-  begins = exactly-when (timed c) (c .settings) (factsOf c)
+  begins = exactly-when (risen c) (c .settings) (factsOf c)
 
   -- an action that does not change the array leaves it alone
   idle : (a : Action) → changesArray a ≡ false → each (cellOf (onArray a (length (m .array)) (c .input))) (m .array) ≡ m .array
@@ -36,7 +36,7 @@ module _ (c : Call) (m : Lent) where
   unfolding frame
   only-then e = by (eqb (numberFor c (lengthsOf c m)) 0) refl e
     where
-      by : (b : Bool) → eqb (numberFor c (lengthsOf c m)) 0 ≡ b → (b && ready (timed c) (factsOf c)) ≡ false → frame c m .lent .array ≡ m .array
+      by : (b : Bool) → eqb (numberFor c (lengthsOf c m)) 0 ≡ b → (b && ready (risen c) (factsOf c)) ≡ false → frame c m .lent .array ≡ m .array
       by true t e = rw t (idle (judgedOf c .action) (begins ∙ e))
       by false t e = rw t
 
@@ -53,9 +53,9 @@ module _ (c : Call) (m : Lent) where
   unfolding frame replied judgedOf
   then-always e = by (eqb (numberFor c (lengthsOf c m)) 0) refl e
     where
-      by : (b : Bool) → eqb (numberFor c (lengthsOf c m)) 0 ≡ b → (b && ready (timed c) (factsOf c)) ≡ true
+      by : (b : Bool) → eqb (numberFor c (lengthsOf c m)) 0 ≡ b → (b && ready (risen c) (factsOf c)) ≡ true
           → (frame c m .lent .array ≡ each (cellOf (operationOf c (lengthsOf c m))) (m .array)) × (frame c m .reply .outcome ≡ "begun")
       by true t e =
-          let w = as-asked (timed c) (c .settings) (factsOf c) (begins ∙ e) in
+          let w = as-asked (risen c) (c .settings) (factsOf c) (begins ∙ e) in
           rw t (ap (λ (a : Action). each (cellOf (onArray a (length (m .array)) (c .input))) (m .array)) (w .0), ap wordOf (w .1))
       by false t e = absurd (false≢true e)

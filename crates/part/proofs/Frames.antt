@@ -9,12 +9,13 @@ use Rattle.sheet.specs.declared.device.Device.{Device}
 use Rattle.sheet.specs.declared.judge.Judged.{Judged}
 use Rattle.part.specs.Operations.{cellOf, onArray, onRegister}
 use Rattle.part.specs.Output.{store, readAt}
+use Rattle.part.specs.Time.{standing}
 use Rattle.part.specs.Frame.{Call, Lent, lent, timed, judgedOf, answered, served}
 
 pub together : (c : Call) (m : Lent) (d : Device) (j : Judged) (array register output : List ℕ) → d ≡ timed c → j ≡ judgedOf c
     → array ≡ each (cellOf (onArray (j .action) (length (m .array)) (c .input))) (m .array)
     → register ≡ each (cellOf (onRegister (j .action) (c .input))) (m .register)
     → output
-    ≡ each (stored (range 0 (length (c .input))) (readAt j d (c .signals .wp) (c .signals .bits) (store (m .array)) (store (m .register)) (c .input))) (m .output)
+    ≡ each (stored (range 0 (length (c .input))) (readAt j (standing d (c .signals .pace)) (c .signals .wp) (c .signals .bits) (store (m .array)) (store (m .register)) (c .input))) (m .output)
     → record { reply = answered j; lent = lent array register output } ≡ served c m
 together c m d j array register output t e p q r = rw (p, q, r, t, e)

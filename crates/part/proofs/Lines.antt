@@ -71,29 +71,29 @@ clip-last bytes bits xs n l z = is-each (clipped bytes bits) xs clip (length-set
     by k m (no q) = getD-set-other xs last k _ 0 q ∙ kept bytes bits k (getD xs k 0) (λ p. omega arith)
 
 -- What is driven and what is not, side by side, is the line of a read.
-pub pieces : (source : Source) (d : Device) (wp : Bool) (array register : Store) (input : List ℕ) (first end bytes : ℕ) (xs : List ℕ) → first ≤ end
+pub pieces : (source : Source) (stand : ℕ → Device) (wp : Bool) (array register : Store) (input : List ℕ) (first end bytes : ℕ) (xs : List ℕ) → first ≤ end
     → end ≤ bytes
-    → each (filled end bytes 0xFF) (each (sent source d wp array register input first end) (each (filled 0 first 0xFF) xs))
-    ≡ each (stored (range 0 bytes) (driveAt source first end d wp array register input)) xs
-pieces source d wp array register input first end bytes xs p q =
+    → each (filled end bytes 0xFF) (each (sent source stand wp array register input first end) (each (filled 0 first 0xFF) xs))
+    ≡ each (stored (range 0 bytes) (driveAt source first end stand wp array register input)) xs
+pieces source stand wp array register input first end bytes xs p q =
     let before = runs-on (begins f 0 bytes xs (omega arith)) (λ k x. 0xFF) first _ (omega arith) (omega arith) refl (λ k x l h. out k (range-before first end k h)) in
-    let between = runs-on before (λ k x. byteFrom m start (k - first)) end _ p q refl (λ k x l h. into k (range-in first end k l h)) in
+    let between = runs-on before (λ k x. byteFrom (m k) start (k - first)) end _ p q refl (λ k x l h. into k (range-in first end k l h)) in
     let behind = runs-on between (λ k x. 0xFF) bytes _ q (omega arith) refl (λ k x l h. out k (range-behind first end k l)) in
     ends behind (omega arith)
   where
-    m : Store
-    m = storeOf source d wp array register
+    m : ℕ → Store
+    m k = storeOf source (stand k) wp array register
 
     start : ℕ
     start = startOf source input
 
     f : Cell
-    f k x = driveAt source first end d wp array register input k
+    f k x = driveAt source first end stand wp array register input k
 
-    out : (k : ℕ) → range first end k ≡ false → 0xFF ≡ driveAt source first end d wp array register input k
+    out : (k : ℕ) → range first end k ≡ false → 0xFF ≡ driveAt source first end stand wp array register input k
     out k e = rw e
 
-    into : (k : ℕ) → range first end k ≡ true → byteFrom m start (k - first) ≡ driveAt source first end d wp array register input k
+    into : (k : ℕ) → range first end k ≡ true → byteFrom (m k) start (k - first) ≡ driveAt source first end stand wp array register input k
     into k e = rw e
 
 -- What is on the line, with 1 for each bit that was not clocked, is what each position reads.

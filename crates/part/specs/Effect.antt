@@ -4,12 +4,13 @@ use lib.Dec.{eqb}
 use Rattle.opcodes.specs.Rows.{rowOf}
 use Rattle.sheet.specs.Begins.{asksFor, ready}
 use Rattle.lent.specs.declared.refusal.Lengths.{Lengths}
-use Rattle.part.specs.Frame.{Call, numberFor, timed, factsOf}
+use Rattle.part.specs.Frame.{Call, numberFor, risen, factsOf}
 use Rattle.part.specs.Operations.{Operation, onArray}
 
--- the call is accepted, and the frame is a program or an erase, complete, on a boundary, with WEL 1, the part awake, idle, BP0 0
+-- the call is accepted, and the frame is a program or an erase, complete, on a boundary, with WEL 1, the part awake, idle at the frame's
+-- first bit, BP0 0
 abbrev pub takesEffect : Call → Lengths → Bool
-takesEffect c lengths = eqb (numberFor c lengths) 0 && ready (timed c) (factsOf c)
+takesEffect c lengths = eqb (numberFor c lengths) 0 && ready (risen c) (factsOf c)
 
 -- the operation that the frame's opcode asks for
 abbrev pub operationOf : Call → Lengths → Operation

@@ -1,7 +1,7 @@
 -- One call, one chip-select frame: what comes back and what the lent memories then hold, from what is handed in. Assumes nothing.
 use Prim.Native.Nat.{ℕ}
 use Prim.Native.String.{String}
-use mathlib.Core.Bool.{cond}
+use mathlib.Core.Bool.{Bool, cond}
 use mathlib.Core.List.{List}
 use mathlib.Core.Path.{_≡_}
 use lib.Dec.{eqb}
@@ -13,19 +13,20 @@ use Rattle.settings.specs.declared.Settings.{Settings}
 use Rattle.sheet.specs.declared.judge.Facts.{Facts}
 use Rattle.sheet.specs.declared.judge.Judged.{Judged}
 use Rattle.sheet.specs.declared.judge.Outcome.{Outcome}
-use Rattle.sheet.specs.Device.{passed}
+use Rattle.sheet.specs.Device.{isBusy, passed}
 use Rattle.sheet.specs.Judging.{judged}
 use Rattle.lent.specs.declared.refusal.Lengths.{Lengths}
 use Rattle.lent.specs.declared.refusal.Refusal.{Refusal}
-use Rattle.lent.specs.Refusal.{numberOf, refusalOf}
+use Rattle.lent.specs.Refusal.{numberOf, bytesFor, refusalOf}
 use Rattle.part.specs.declared.frame.Signals.{Signals}
 use Rattle.part.specs.declared.frame.Answer.{Answer}
 use Rattle.part.specs.Words.{wordOf}
+use Rattle.part.specs.Time.{standing}
 use Rattle.part.specs.Operations.{cellOf, onArray, onRegister}
 use Rattle.part.specs.Output.{store, readAt}
 
--- what a call is handed, beside the memories: the record, the settings, the input bytes, and the bits clocked, WP's level and the
--- ticks elapsed
+-- what a call is handed, beside the memories: the record, the settings, the input bytes, and the bits clocked, WP's level, the ticks
+-- elapsed and the ticks per byte position
 pub record Call : Type 0 where
   pub device : Device
   pub settings : Settings
@@ -62,23 +63,31 @@ lengthsOf c m = record { array = length (m .array); register = length (m .regist
 
 -- the number of its refusal; 0 if there is none
 unfoldable pub numberFor : Call → Lengths → ℕ
-numberFor c lengths = refusalOf (c .device) (c .settings) (c .signals .bits) lengths
+numberFor c lengths = refusalOf (c .device) (c .settings) (c .signals .bits) (c .signals .pace) lengths
 
--- time passes first
+-- time passes first: the record at the frame's first bit
 abbrev pub timed : Call → Device
 timed c = passed (c .device) (c .signals .elapsed)
 
--- and what judging needs to know is taken from the frame
-abbrev pub factsFor : List ℕ → Signals → Facts
-factsFor input signals =
-    record { code = getD input 0 0; second = getD input 1 0; bytes = length input; bits = signals .bits; wp = signals .wp }
+-- at the first bit of each position: every position before it has taken its ticks
+abbrev pub standsAt : Call → ℕ → Device
+standsAt c = standing (timed c) (c .signals .pace)
+
+-- and at the rise: every position has, a partial last one too
+abbrev pub risen : Call → Device
+risen c = standsAt c (bytesFor (c .signals .bits))
+
+-- what judging needs to know is taken from the frame; whether the part is busy, at the first bit
+abbrev pub factsFor : List ℕ → Signals → Bool → Facts
+factsFor input signals busy =
+    record { code = getD input 0 0; second = getD input 1 0; bytes = length input; bits = signals .bits; wp = signals .wp; busy = busy }
 
 abbrev pub factsOf : Call → Facts
-factsOf c = factsFor (c .input) (c .signals)
+factsOf c = factsFor (c .input) (c .signals) (isBusy (timed c))
 
--- then the frame is judged
+-- then the frame is judged, and does what it does at the rise
 unfoldable pub judgedOf : Call → Judged
-judgedOf c = judged (timed c) (c .settings) (factsOf c)
+judgedOf c = judged (risen c) (c .settings) (factsOf c)
 
 -- what comes back from an accepted call
 abbrev pub answered : Judged → Reply
@@ -92,21 +101,25 @@ refused number d = record { refusal = number; outcome = "nothing"; first = 0; dr
 unfoldable pub replied : Call → Lengths → Reply
 replied c lengths = cond (eqb (numberFor c lengths) 0) (answered (judgedOf c)) (refused (numberFor c lengths) (c .device))
 
--- what the memories then hold: the operations took effect, and of the output the first n bytes are written
-abbrev pub arrayAfter : Call → Lent → List ℕ
-arrayAfter c m = each (cellOf (onArray (judgedOf c .action) (length (m .array)) (c .input))) (m .array)
+-- what the memories then hold, by what was judged and how the record stood: the operations took effect, and of the output the first n
+-- bytes are written
+abbrev pub arrayAfter : Judged → Call → Lent → List ℕ
+arrayAfter j c m = each (cellOf (onArray (j .action) (length (m .array)) (c .input))) (m .array)
 
-abbrev pub registerAfter : Call → Lent → List ℕ
-registerAfter c m = each (cellOf (onRegister (judgedOf c .action) (c .input))) (m .register)
+abbrev pub registerAfter : Judged → Call → Lent → List ℕ
+registerAfter j c m = each (cellOf (onRegister (j .action) (c .input))) (m .register)
 
-abbrev pub outputAfter : Call → Lent → List ℕ
-outputAfter c m =
+abbrev pub outputAfter : Judged → (ℕ → Device) → Call → Lent → List ℕ
+outputAfter j stand c m =
     each
     (stored (range 0 (length (c .input)))
-    (readAt (judgedOf c) (timed c) (c .signals .wp) (c .signals .bits) (store (m .array)) (store (m .register)) (c .input))) (m .output)
+    (readAt j stand (c .signals .wp) (c .signals .bits) (store (m .array)) (store (m .register)) (c .input))) (m .output)
+
+abbrev pub lentBy : Judged → (ℕ → Device) → Call → Lent → Lent
+lentBy j stand c m = lent (arrayAfter j c m) (registerAfter j c m) (outputAfter j stand c m)
 
 abbrev pub lentAfter : Call → Lent → Lent
-lentAfter c m = lent (arrayAfter c m) (registerAfter c m) (outputAfter c m)
+lentAfter c m = lentBy (judgedOf c) (standsAt c) c m
 
 -- an accepted call
 abbrev pub served : Call → Lent → Result

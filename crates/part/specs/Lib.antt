@@ -1,6 +1,8 @@
 pub mod Words
+pub mod Time
 pub mod Operations
 pub mod Output
 pub mod Steps
 pub mod Frame
 pub mod Effect
+pub mod Frozen

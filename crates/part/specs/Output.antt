@@ -1,4 +1,5 @@
--- What the part drives, and what the output positions read. Assumes nothing.
+-- What the part drives, and what the output positions read. How the record stands at the first bit of each position is an argument, `stand`.
+-- Assumes nothing.
 use Prim.Native.Nat.{ℕ, _+_, _-_, _*_, _/_, _%_, _^_}
 use mathlib.Core.Bool.{Bool, cond}
 use mathlib.Core.List.{List, [], _∷_}
@@ -41,23 +42,24 @@ startOf Legacy input = 0
 abbrev pub byteFrom : Store → ℕ → ℕ → ℕ
 byteFrom m start i = m .at ((start + i) % m .size)
 
--- what is on the line at position k of a read that drives from `first` up to `end`: its byte, or FFh where the part does not drive
-abbrev pub driveAt : Source → ℕ → ℕ → Device → Bool → Store → Store → List ℕ → ℕ → ℕ
-driveAt source first end d wp array register input k =
-    cond (range first end k) (byteFrom (storeOf source d wp array register) (startOf source input) (k - first)) 0xFF
+-- what is on the line at position k of a read that drives from `first` up to `end`: its byte, by the record at that position's first bit,
+-- or FFh where the part does not drive
+abbrev pub driveAt : Source → ℕ → ℕ → (ℕ → Device) → Bool → Store → Store → List ℕ → ℕ → ℕ
+driveAt source first end stand wp array register input k =
+    cond (range first end k) (byteFrom (storeOf source (stand k) wp array register) (startOf source input) (k - first)) 0xFF
 
 -- what is on the line at position k: nothing but a read drives
-abbrev pub lineAt : Action → Judged → Device → Bool → Store → Store → List ℕ → ℕ → ℕ
-lineAt Action.Still j d wp array register input k = 0xFF
-lineAt (Action.Drive source) j d wp array register input k = driveAt source (j .first) (j .first + j .driven) d wp array register input k
-lineAt Action.Program j d wp array register input k = 0xFF
-lineAt (Action.Erase region) j d wp array register input k = 0xFF
-lineAt Action.Otp j d wp array register input k = 0xFF
+abbrev pub lineAt : Action → Judged → (ℕ → Device) → Bool → Store → Store → List ℕ → ℕ → ℕ
+lineAt Action.Still j stand wp array register input k = 0xFF
+lineAt (Action.Drive source) j stand wp array register input k = driveAt source (j .first) (j .first + j .driven) stand wp array register input k
+lineAt Action.Program j stand wp array register input k = 0xFF
+lineAt (Action.Erase region) j stand wp array register input k = 0xFF
+lineAt Action.Otp j stand wp array register input k = 0xFF
 
 -- the bits of position k that were not clocked: FFh without as many high bits as were
 abbrev pub unclocked : ℕ → ℕ → ℕ
 unclocked bits k = 0xFF / 2 ^ (bits - 8 * k)
 
 -- what position k reads: the line, with 1 for each bit that was not clocked
-unfoldable pub readAt : Judged → Device → Bool → ℕ → Store → Store → List ℕ → ℕ → ℕ
-readAt j d wp bits array register input k = bitOr (lineAt (j .action) j d wp array register input k) (unclocked bits k)
+unfoldable pub readAt : Judged → (ℕ → Device) → Bool → ℕ → Store → Store → List ℕ → ℕ → ℕ
+readAt j stand wp bits array register input k = bitOr (lineAt (j .action) j stand wp array register input k) (unclocked bits k)

@@ -11,13 +11,17 @@ use sheet::judge::Facts;
 use sheet::judge::Outcome;
 use sheet::judge::judge;
 ghost use mathlib.Core.Path.{_≡_};
+ghost use Prim.Native.Nat.{_*_, _≤_};
+ghost use Rattle.lent.specs.Refusal.{bytesFor};
 ghost use Rattle.part.specs.Frame as spec;
 
-// The bits clocked, whether WP is high for the whole frame, and the ticks elapsed since the call before.
+// The bits clocked, whether WP is high for the whole frame, the ticks elapsed since the call before, and the ticks that each byte position
+// of the frame takes, a partial last one too.
 pub struct Signals {
     pub bits: u64,
     pub wp: bool,
     pub elapsed: u64,
+    pub pace: u64,
 }
 
 // Why the call was refused, its outcome, the first driven position, how many are driven, and the record as it then stands.
@@ -29,9 +33,17 @@ pub struct Answer {
     pub device: Device,
 }
 
-// What judging needs to know of a frame.
-fn facts_of(input: &[u8], signals: Signals) -> Facts
-    ensures { λ r. ⌜ r ≡ spec.factsFor (now (input .entry)) signals ⌝ }
+// The ticks that a frame takes.
+fn ticks_of(signals: Signals) -> u64
+    requires { ⌜ (signals .bits ≤ 65536) × (signals .pace ≤ 1000) ⌝ }
+    ensures { λ r. ⌜ r ≡ bytesFor (signals .bits) * signals .pace ⌝ }
+{
+    (signals.bits + 7) / 8 * signals.pace
+}
+
+// What judging needs to know of a frame, and of the part at its first bit.
+fn facts_of(input: &[u8], signals: Signals, busy: bool) -> Facts
+    ensures { λ r. ⌜ r ≡ spec.factsFor (now (input .entry)) signals busy ⌝ }
 {
     Facts {
         code: byte_at(input, 0),
@@ -39,6 +51,7 @@ fn facts_of(input: &[u8], signals: Signals) -> Facts
         bytes: input.len(),
         bits: signals.bits,
         wp: signals.wp,
+        busy,
     }
 }
 
@@ -55,7 +68,8 @@ fn refused(refusal: Refusal, device: Device) -> Answer
     }
 }
 
-// An accepted call: time passes, the frame is judged, the output shows what the part drives, and what is to be done is done.
+// An accepted call: time passes up to the frame's first bit and on to its rise, the frame is judged, the output shows what the part drives,
+// and what is to be done is done.
 fn served(
     device: Device,
     settings: Settings,
@@ -76,10 +90,12 @@ fn served(
         ⌝ }
 {
     let timed = device.passed(signals.elapsed);
-    let judged = judge(timed, settings, facts_of(input, signals));
+    let risen = timed.passed(ticks_of(signals));
+    let judged = judge(risen, settings, facts_of(input, signals, 0 < timed.busy));
     show(
         judged,
         timed,
+        signals.pace,
         signals.wp,
         signals.bits,
         array,
@@ -122,7 +138,7 @@ pub fn frame(
         input: input.len(),
         output: output.len(),
     };
-    let refusal = refusal_of(device, settings, signals.bits, lengths);
+    let refusal = refusal_of(device, settings, signals.bits, signals.pace, lengths);
     if refusal.number() == 0 {
         return served(device, settings, array, register, input, signals, output);
     }

@@ -14,12 +14,48 @@ ghost use lib.ListN.{length};
 ghost use Rattle.cells.specs.Each.{each, stored};
 ghost use Rattle.cells.specs.Range.{range};
 ghost use Rattle.part.specs.Output.{store, driveAt, lineAt, readAt};
-ghost use Rattle.part.specs.Steps.{sent, clipped};
+ghost use Rattle.part.specs.Steps.{sent, shown, clipped};
+ghost use Rattle.part.specs.Time.{standing, BusyBefore};
+
+// Of the positions from `first` up to `end` the first that begins when no busy ticks are left; `end` if there is none.
+fn idle_from(busy: u64, pace: u64, first: usize, end: usize) -> usize
+    requires { ⌜ first ≤ end ⌝ }
+    ensures { λ r. ⌜ (first ≤ r) × (r ≤ end) × BusyBefore busy pace first end r ⌝ }
+{
+    if busy == 0 {
+        return first;
+    }
+    if pace == 0 {
+        return end;
+    }
+    let last = ((busy - 1) / pace) as usize;
+    if last < first {
+        return first;
+    }
+    if end <= last {
+        return end;
+    }
+    last + 1
+}
+
+// The positions from `first` up to `end` receive the status bytes in turn: those of a busy part, and from where busy ends those of an idle one.
+fn send_status(device: Device, pace: u64, wp: bool, first: usize, end: usize, output: &mut [u8])
+    requires { ⌜ (first ≤ end) × (end ≤ length (now output)) ⌝ }
+    ensures { λ _. ⌜ now (output .exit) ≡ each (shown (standing device pace) wp first end) (now (output .entry)) ⌝ }
+{
+    let turn = idle_from(device.busy, pace, first, end);
+    let busy = [status_one(device, wp), status_two(device)];
+    copy_out(output, first, turn, &busy, 0);
+    let idle = device.passed(device.busy);
+    let after = [status_one(idle, wp), status_two(idle)];
+    copy_out(output, turn, end, &after, (turn - first) % 2);
+}
 
 // The positions from `first` up to `end` receive the source's bytes.
 fn send(
     source: Source,
     device: Device,
+    pace: u64,
     wp: bool,
     array: &[u8],
     register: &[u8],
@@ -31,7 +67,7 @@ fn send(
     requires { ⌜ (0 < length (now array)) × (0 < length (now register)) × (first ≤ end) × (end ≤ length (now output)) ⌝ }
     ensures { λ _. ⌜
         now (output .exit) ≡
-        each (sent source device wp (store (now (array .entry))) (store (now (register .entry))) (now (input .entry)) first end) (now (output .entry))
+        each (sent source (standing device pace) wp (store (now (array .entry))) (store (now (register .entry))) (now (input .entry)) first end) (now (output .entry))
         ⌝ }
 {
     match source {
@@ -43,10 +79,7 @@ fn send(
             register,
             address_of(input) % register.len(),
         ),
-        Source::Status => {
-            let bytes = [status_one(device, wp), status_two(device)];
-            copy_out(output, first, end, &bytes, 0);
-        }
+        Source::Status => send_status(device, pace, wp, first, end, output),
         Source::Identity => {
             let bytes = [0x1Fu8, 0x42u8, 0x00u8, 0x00u8];
             copy_out(output, first, end, &bytes, 0);
@@ -62,6 +95,7 @@ fn send(
 fn read_out(
     source: Source,
     device: Device,
+    pace: u64,
     wp: bool,
     array: &[u8],
     register: &[u8],
@@ -76,7 +110,7 @@ fn read_out(
         now (output .exit) ≡
         each
         (stored (range 0 (length (now (input .entry))))
-        (driveAt source first end device wp (store (now (array .entry))) (store (now (register .entry))) (now (input .entry))))
+        (driveAt source first end (standing device pace) wp (store (now (array .entry))) (store (now (register .entry))) (now (input .entry))))
         (now (output .entry))
         ⌝ }
 {
@@ -84,6 +118,7 @@ fn read_out(
     send(
         source,
         device,
+        pace,
         wp,
         array,
         register,
@@ -99,6 +134,7 @@ fn read_out(
 fn drive(
     judged: Judged,
     device: Device,
+    pace: u64,
     wp: bool,
     array: &[u8],
     register: &[u8],
@@ -111,7 +147,7 @@ fn drive(
         now (output .exit) ≡
         each
         (stored (range 0 (length (now (input .entry))))
-        (lineAt (judged .action) judged device wp (store (now (array .entry))) (store (now (register .entry))) (now (input .entry))))
+        (lineAt (judged .action) judged (standing device pace) wp (store (now (array .entry))) (store (now (register .entry))) (now (input .entry))))
         (now (output .entry))
         ⌝ }
 {
@@ -124,6 +160,7 @@ fn drive(
         Action::Drive(source) => read_out(
             source,
             device,
+            pace,
             wp,
             array,
             register,
@@ -154,6 +191,7 @@ fn clip(output: &mut [u8], bytes: usize, bits: u64)
 pub(crate) fn show(
     judged: Judged,
     device: Device,
+    pace: u64,
     wp: bool,
     bits: u64,
     array: &[u8],
@@ -169,10 +207,10 @@ pub(crate) fn show(
         now (output .exit) ≡
         each
         (stored (range 0 (length (now (input .entry))))
-        (readAt judged device wp bits (store (now (array .entry))) (store (now (register .entry))) (now (input .entry))))
+        (readAt judged (standing device pace) wp bits (store (now (array .entry))) (store (now (register .entry))) (now (input .entry))))
         (now (output .entry))
         ⌝ }
 {
-    drive(judged, device, wp, array, register, input, output);
+    drive(judged, device, pace, wp, array, register, input, output);
     clip(output, input.len(), bits);
 }

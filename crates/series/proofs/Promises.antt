@@ -17,7 +17,7 @@ use Rattle.sheet.proofs.Begins.{exactly-when}
 use Rattle.sheet.proofs.Leaves.{reset-still}
 use Rattle.sheet.proofs.Records.{sound-then}
 use Rattle.part.specs.Operations.{Operation, onRegister}
-use Rattle.part.specs.Frame.{Reply, Result, Meets, factsOf, timed, judgedOf, numberFor}
+use Rattle.part.specs.Frame.{Reply, Result, Meets, factsOf, risen, judgedOf, numberFor}
 use Rattle.part.specs.Frame as part
 use Rattle.part.proofs.Answers.{answerOf, some-answer}
 use Rattle.series.specs.Turns.{Turn, callOf, lengthsOf, replyTo, effectOf, replies, operations, lastRecord}
@@ -139,11 +139,11 @@ module _ (s : Step) (t : State) (code : getD (s .turn .input) 0 0 ≡ 0xF0) wher
 
   still : judgedOf c .action ≡ Action.Still
   unfolding judgedOf rowOf lookup rows
-  still = reset-still (timed c) (s .turn .settings) (factsOf c) (rw code)
+  still = reset-still (risen c) (s .turn .settings) (factsOf c) (rw code)
 
-  not-ready : ready (timed c) (factsOf c) ≡ false
+  not-ready : ready (risen c) (factsOf c) ≡ false
   unfolding judgedOf
-  not-ready = sym (exactly-when (timed c) (s .turn .settings) (factsOf c)) ∙ ap changesArray still
+  not-ready = sym (exactly-when (risen c) (s .turn .settings) (factsOf c)) ∙ ap changesArray still
 
   reset-effect : effectOf (s .turn) (t .device) ≡ []
   reset-effect = rw (not-ready, and-false (eqb (numberFor c (lengthsOf (s .turn))) 0))

@@ -10,7 +10,7 @@ use Rattle.cells.specs.Each.{each, stored}
 use Rattle.cells.specs.Range.{range}
 use Rattle.sheet.specs.declared.device.Device.{Device}
 use Rattle.part.specs.Output.{Store, readAt}
-use Rattle.part.specs.Frame.{Call, Lent, lent, timed, judgedOf, numberFor, frame}
+use Rattle.part.specs.Frame.{Call, Lent, lent, standsAt, judgedOf, numberFor, frame}
 use Rattle.part.specs.Frame as part
 use Rattle.series.specs.Turns.{callOf, lengthsOf, replyTo, effectOf}
 use Rattle.series.specs.Series.{Step, State, lentTo, resultOf, left, results, end}
@@ -38,7 +38,7 @@ pub record Whole (size other : ℕ) (s : Step) : Type 0 where
 abbrev written : Call → Store → Store → List ℕ → List ℕ
 written c array register buffer =
     each
-    (stored (range 0 (length (c .input))) (readAt (judgedOf c) (timed c) (c .signals .wp) (c .signals .bits) array register (c .input)))
+    (stored (range 0 (length (c .input))) (readAt (judgedOf c) (standsAt c) (c .signals .wp) (c .signals .bits) array register (c .input)))
     buffer
 
 unfoldable pub cameTold : Step → Scene → Came
@@ -97,7 +97,7 @@ module _ (s : Step) (t : Scene) (has : 0 < t .array .plain .size) (holds : 0 < t
       by : (b : Bool)
           → cond b (part.lentAfter c (lent (memoryOf (t .array)) (memoryOf (t .register)) (s .buffer))) (lent (memoryOf (t .array)) (memoryOf (t .register)) (s .buffer)) .output
           ≡ cond b (written c (toldStore (t .array)) (toldStore (t .register)) (s .buffer)) (s .buffer)
-      by true = read-told (t .array) (t .register) has holds (judgedOf c) (timed c) (c .signals .wp) (c .signals .bits) (c .input) (s .buffer)
+      by true = read-told (t .array) (t .register) has holds (judgedOf c) (standsAt c) (c .signals .wp) (c .signals .bits) (c .input) (s .buffer)
       by false = refl
 
   came-told : cameOf (resultOf s (stateOf t)) ≡ cameTold s t

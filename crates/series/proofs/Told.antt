@@ -90,30 +90,30 @@ module _ (array register : Told) (has : 0 < array .plain .size) (holds : 0 < reg
   from-source Identity d wp start i = refl
   from-source Legacy d wp start i = refl
 
-  on-line : (a : Action) (j : Judged) (d : Device) (wp : Bool) (input : List ℕ) (k : ℕ)
-      → lineAt a j d wp (store (memoryOf array)) (store (memoryOf register)) input k ≡ lineAt a j d wp (toldStore array) (toldStore register) input k
-  on-line Action.Still j d wp input k = refl
-  on-line (Action.Drive source) j d wp input k =
-      ap (λ (b : ℕ). cond (range (j .first) (j .first + j .driven) k) b 0xFF) (from-source source d wp (startOf source input) (k - j .first))
-  on-line Action.Program j d wp input k = refl
-  on-line (Action.Erase region) j d wp input k = refl
-  on-line Action.Otp j d wp input k = refl
+  on-line : (a : Action) (j : Judged) (stand : ℕ → Device) (wp : Bool) (input : List ℕ) (k : ℕ)
+      → lineAt a j stand wp (store (memoryOf array)) (store (memoryOf register)) input k ≡ lineAt a j stand wp (toldStore array) (toldStore register) input k
+  on-line Action.Still j stand wp input k = refl
+  on-line (Action.Drive source) j stand wp input k =
+      ap (λ (b : ℕ). cond (range (j .first) (j .first + j .driven) k) b 0xFF) (from-source source (stand k) wp (startOf source input) (k - j .first))
+  on-line Action.Program j stand wp input k = refl
+  on-line (Action.Erase region) j stand wp input k = refl
+  on-line Action.Otp j stand wp input k = refl
 
-  pub read-told : (j : Judged) (d : Device) (wp : Bool) (bits : ℕ) (input xs : List ℕ)
-      → each (over (range 0 (length input)) (λ k x. readAt j d wp bits (store (memoryOf array)) (store (memoryOf register)) input k)) xs
-      ≡ each (over (range 0 (length input)) (λ k x. readAt j d wp bits (toldStore array) (toldStore register) input k)) xs
+  pub read-told : (j : Judged) (stand : ℕ → Device) (wp : Bool) (bits : ℕ) (input xs : List ℕ)
+      → each (over (range 0 (length input)) (λ k x. readAt j stand wp bits (store (memoryOf array)) (store (memoryOf register)) input k)) xs
+      ≡ each (over (range 0 (length input)) (λ k x. readAt j stand wp bits (toldStore array) (toldStore register) input k)) xs
   unfolding readAt
-  read-told j d wp bits input xs =
+  read-told j stand wp bits input xs =
       each-alike (over (range 0 (length input)) real) (over (range 0 (length input)) computed) xs
       (λ k l.
       over-alike (range 0 (length input)) (range 0 (length input)) real computed k (getD xs k 0) refl
-      (λ c. ap (λ (b : ℕ). bitOr b (unclocked bits k)) (on-line (j .action) j d wp input k)))
+      (λ c. ap (λ (b : ℕ). bitOr b (unclocked bits k)) (on-line (j .action) j stand wp input k)))
     where
       real : Cell
-      real k x = readAt j d wp bits (store (memoryOf array)) (store (memoryOf register)) input k
+      real k x = readAt j stand wp bits (store (memoryOf array)) (store (memoryOf register)) input k
 
       computed : Cell
-      computed k x = readAt j d wp bits (toldStore array) (toldStore register) input k
+      computed k x = readAt j stand wp bits (toldStore array) (toldStore register) input k
 
 -- Where operations and pieces are steady over the n places from `low` on: no border of theirs lies within.
 unfoldable pub apart : ℕ → ℕ → ℕ → ℕ → Bool

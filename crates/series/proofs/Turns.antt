@@ -15,15 +15,15 @@ use Rattle.opcodes.specs.Rows.{rowOf}
 use Rattle.sheet.specs.declared.device.Device.{Device}
 use Rattle.sheet.specs.declared.judge.Facts.{Facts}
 use Rattle.sheet.specs.Begins.{asksFor, meansArray, ready}
-use Rattle.sheet.specs.Device.{awake, isBusy, unsound}
+use Rattle.sheet.specs.Device.{awake, unsound}
 use Rattle.sheet.proofs.Begins.{exactly-when}
 use Rattle.sheet.proofs.Leaves.{as-asked, stays-sound}
-use Rattle.sheet.proofs.Records.{passed-sound}
+use Rattle.sheet.proofs.Records.{stays-idle, passed-sound}
 use Rattle.lent.proofs.Lengths.{Accepted, accepted}
 use Rattle.part.specs.Operations.{Operation, onArray}
 use Rattle.part.specs.Words.{wordOf}
 use Rattle.part.proofs.Answers as answers
-use Rattle.part.specs.Frame.{Call, Reply, numberFor, timed, factsOf, judgedOf, answered, refused, replied}
+use Rattle.part.specs.Frame.{Call, Reply, numberFor, timed, risen, factsOf, judgedOf, answered, refused, replied}
 use Rattle.part.specs.Effect.{takesEffect, operationOf}
 use Rattle.series.specs.Turns.{Turn, callOf, lengthsOf, replyTo, effectOf, replies, operations, lastRecord}
 use Rattle.series.specs.Bytes.{works, allWork}
@@ -94,13 +94,13 @@ module _ (t : Turn) (d : Device) where
   unfolding replied
   accepted-reply e = rw (sym refusal-is ∙ e)
 
-  pub accepted-turn : replyTo t d .refusal ≡ 0 → Accepted d (t .settings) (t .signals .bits) (lengthsOf t)
+  pub accepted-turn : replyTo t d .refusal ≡ 0 → Accepted d (t .settings) (t .signals .bits) (t .signals .pace) (lengthsOf t)
   unfolding numberFor
-  accepted-turn e = accepted d (t .settings) (t .signals .bits) (lengthsOf t) (sym refusal-is ∙ e)
+  accepted-turn e = accepted d (t .settings) (t .signals .bits) (t .signals .pace) (lengthsOf t) (sym refusal-is ∙ e)
 
   -- an operation takes effect in an accepted turn only
   pub effect-accepted : takesEffect (callOf t d) (lengthsOf t) ≡ true → replyTo t d .refusal ≡ 0
-  effect-accepted e = refusal-is ∙ eqb-true number 0 (and-eq-true-iff (eqb number 0) (ready (timed (callOf t d)) (factsOf (callOf t d))) .0 e .0)
+  effect-accepted e = refusal-is ∙ eqb-true number 0 (and-eq-true-iff (eqb number 0) (ready (risen (callOf t d)) (factsOf (callOf t d))) .0 e .0)
 
   -- and it is a program or an erase
   pub effect-works : allWork (effectOf t d) ≡ true
@@ -113,8 +113,8 @@ module _ (t : Turn) (d : Device) where
       means : takesEffect (callOf t d) (lengthsOf t) ≡ true → meansArray (rowOf (f .code) .command) ≡ true
       means e =
           let readied = and-eq-true-iff (eqb number 0) _ .0 e .1 in
-          let idle = and-eq-true-iff (awake (timed (callOf t d) .mode)) _ .0 readied .1 in
-          let whole = and-eq-true-iff (not (isBusy (timed (callOf t d)))) _ .0 idle .1 in
+          let idle = and-eq-true-iff (awake (risen (callOf t d) .mode)) _ .0 readied .1 in
+          let whole = and-eq-true-iff (not (f .busy)) _ .0 idle .1 in
           let opcode = and-eq-true-iff (not (ltb (f .bits) 8)) _ .0 whole .1 in
           and-eq-true-iff (meansArray (rowOf (f .code) .command)) _ .0 opcode .0
 
@@ -132,8 +132,8 @@ module _ (t : Turn) (d : Device) where
 
       begun : takesEffect c (lengthsOf t) ≡ true → wordOf (judgedOf c .outcome) ≡ "begun"
       begun e =
-          let readied = and-eq-true-iff (eqb number 0) (ready (timed c) (factsOf c)) .0 e .1 in
-          ap wordOf (as-asked (timed c) (t .settings) (factsOf c) (exactly-when (timed c) (t .settings) (factsOf c) ∙ readied) .1)
+          let readied = and-eq-true-iff (eqb number 0) (ready (risen c) (factsOf c)) .0 e .1 in
+          ap wordOf (as-asked (risen c) (t .settings) (factsOf c) (exactly-when (risen c) (t .settings) (factsOf c) ∙ readied) .1)
 
       by : (b : Bool) → takesEffect c (lengthsOf t) ≡ b → cond b (operationOf c (lengthsOf t) ∷ []) [] ≢ [] → replyTo t d .outcome ≡ "begun"
       by true e n = ap (λ (r : Reply). r .outcome) (accepted-reply (effect-accepted e)) ∙ begun e
@@ -144,8 +144,10 @@ module _ (t : Turn) (d : Device) where
   unfolding judgedOf
   sound-turn u = by (ℕ-discrete (replyTo t d .refusal) 0)
     where
-      judging : Accepted d (t .settings) (t .signals .bits) (lengthsOf t) → unsound (judgedOf (callOf t d) .device) ≡ false
-      judging a = stays-sound (timed (callOf t d)) (t .settings) (factsOf (callOf t d)) (passed-sound d (t .signals .elapsed) u) (a .fair)
+      judging : Accepted d (t .settings) (t .signals .bits) (t .signals .pace) (lengthsOf t) → unsound (judgedOf (callOf t d) .device) ≡ false
+      judging a =
+          stays-sound (risen (callOf t d)) (t .settings) (factsOf (callOf t d)) (passed-sound (timed (callOf t d)) _ (passed-sound d (t .signals .elapsed) u)) (a .fair)
+          (stays-idle (timed (callOf t d)) _)
 
       by : Dec (replyTo t d .refusal ≡ 0) → unsound (replyTo t d .device) ≡ false
       by (yes e) = rw (accepted-reply e) (judging (accepted-turn e))

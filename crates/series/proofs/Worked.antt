@@ -20,6 +20,7 @@ use Rattle.series.specs.Series.{State, results, end}
 use Rattle.series.specs.Worked.{Exchange, Came, Row, Worked, EachWorked, Piece, blank, canary, stepOf, stepsOf, startOf, cameOf, painted}
 use Rattle.series.specs.Table.{table}
 use Rattle.series.specs.Further.{further}
+use Rattle.series.specs.Polls.{polls}
 use Rattle.series.proofs.Applied.{through}
 use Rattle.series.proofs.Halves.{everywhere, halved}
 use Rattle.series.proofs.Told.{Told, Plain, told, memoryOf, begins-blank, agrees, steadyOperations, steadyPieces, steadyFor, one-side, apart, inside, painted-told}
@@ -101,3 +102,9 @@ pub worked-further : EachWorked further
 unfolding further repliesOf wantedOf fitting allFitting agrees everywhere halved steadyOperations steadyPieces steadyFor one-side apart inside through painted allTold endTold cameTold next replied numberFor
     refusalOf anyUnfair judgedOf judged byOpcode rowOf rows lookup readAt each eachFrom over covered last
 worked-further = each-holds further refl refl
+
+-- and those of frames that take time
+pub worked-polls : EachWorked polls
+unfolding polls repliesOf wantedOf fitting allFitting agrees everywhere halved steadyOperations steadyPieces steadyFor one-side apart inside through painted allTold endTold cameTold next replied numberFor
+    refusalOf anyUnfair judgedOf judged byOpcode rowOf rows lookup readAt each eachFrom over covered last
+worked-polls = each-holds polls refl refl

@@ -15,7 +15,7 @@ use Rattle.series.specs.Promises.{effects}
 use Rattle.series.specs.Worked.{blank}
 use Rattle.series.specs.Words.{idle}
 
--- a call with WP high and the typical times, so many ticks after the call before, that is lent so many bytes of array, register and output
+-- a call with WP high and the typical times, whose frame takes no time, so many ticks after the call before, that is lent so many bytes of array, register and output
 abbrev lends : ℕ → ℕ → ℕ → ℕ → List ℕ → Step
 lends array register output elapsed input =
     record {
@@ -23,7 +23,7 @@ lends array register output elapsed input =
           record {
             settings = typical;
             input = input;
-            signals = record { bits = 8 * length input; wp = true; elapsed = elapsed };
+            signals = record { bits = 8 * length input; wp = true; elapsed = elapsed; pace = 0 };
             array = array;
             register = register;
             output = output;

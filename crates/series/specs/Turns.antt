@@ -13,8 +13,8 @@ use Rattle.part.specs.Operations.{Operation}
 use Rattle.part.specs.Frame.{Call, Reply, call, replied}
 use Rattle.part.specs.Effect.{takesEffect, operationOf}
 
--- What a call is handed beside the record: the settings, the input bytes, the bits clocked with WP's level and the ticks elapsed, and
--- how many bytes of array, register and output it is lent, which may be any numbers.
+-- What a call is handed beside the record: the settings, the input bytes, the bits clocked with WP's level, the ticks elapsed and the
+-- ticks per byte position, and how many bytes of array, register and output it is lent, which may be any numbers.
 pub record Turn : Type 0 where
   pub settings : Settings
   pub input : List ℕ

@@ -23,15 +23,19 @@ enabled = stands false false true 0
 abbrev pub busy : ℕ → Device
 busy ticks = stands false false false ticks
 
--- a frame of so many bits, with WP high; of whole bytes; of whole bytes with WP low
+-- a frame of so many bits, with WP high, that takes no time; of whole bytes; of whole bytes with WP low
 abbrev pub clocked : ℕ → List ℕ → ℕ → Sent
-clocked bits bytes elapsed = record { bytes = bytes; bits = bits; wp = true; elapsed = elapsed }
+clocked bits bytes elapsed = record { bytes = bytes; bits = bits; wp = true; elapsed = elapsed; pace = 0 }
 
 abbrev pub whole : List ℕ → ℕ → Sent
 whole bytes elapsed = clocked (8 * length bytes) bytes elapsed
 
 abbrev pub low : List ℕ → ℕ → Sent
-low bytes elapsed = record { bytes = bytes; bits = 8 * length bytes; wp = false; elapsed = elapsed }
+low bytes elapsed = record { bytes = bytes; bits = 8 * length bytes; wp = false; elapsed = elapsed; pace = 0 }
+
+-- the same frame, each of whose positions takes so many ticks
+abbrev pub paced : ℕ → Sent → Sent
+paced pace s = record { bytes = s .bytes; bits = s .bits; wp = s .wp; elapsed = s .elapsed; pace = pace }
 
 -- what comes back from an accepted call; the byte behind the frame's last is not written
 abbrev pub came : String → ℕ → ℕ → Device → List ℕ → Came

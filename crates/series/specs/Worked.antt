@@ -11,12 +11,13 @@ use Rattle.settings.specs.declared.Settings.{Settings}
 use Rattle.part.specs.Frame.{Reply, Result}
 use Rattle.series.specs.Series.{Step, State, results, end}
 
--- a frame as it is sent: its bytes, the bits clocked, whether WP is high, the ticks elapsed
+-- a frame as it is sent: its bytes, the bits clocked, whether WP is high, the ticks elapsed, the ticks per byte position
 pub record Sent : Type 0 where
   pub bytes : List ℕ
   pub bits : ℕ
   pub wp : Bool
   pub elapsed : ℕ
+  pub pace : ℕ
 
 -- what comes back, and what the output buffer then holds
 pub record Came : Type 0 where
@@ -59,7 +60,7 @@ stepOf settings size e =
           record {
             settings = settings;
             input = e .sent .bytes;
-            signals = record { bits = e .sent .bits; wp = e .sent .wp; elapsed = e .sent .elapsed };
+            signals = record { bits = e .sent .bits; wp = e .sent .wp; elapsed = e .sent .elapsed; pace = e .sent .pace };
             array = size;
             register = 128;
             output = length (e .sent .bytes) + 1;

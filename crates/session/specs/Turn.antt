@@ -12,6 +12,6 @@ use Rattle.part.specs.Frame.{Lent, Result, call, frame}
 abbrev pub digitOf : ℕ → ℕ
 digitOf value = cond (ltb value 10) (0x30 + value) (0x37 + value)
 
--- a frame of whole bytes, WP high
+-- a frame of whole bytes, WP high, that takes no time
 abbrev pub turnOf : Device → Settings → List ℕ → ℕ → Lent → Result
-turnOf d s input elapsed m = frame (call d s input (record { bits = 8 * length input; wp = true; elapsed = elapsed })) m
+turnOf d s input elapsed m = frame (call d s input (record { bits = 8 * length input; wp = true; elapsed = elapsed; pace = 0 })) m

@@ -49,7 +49,7 @@ fn print_line(input: &[u8], output: &[u8], status: u8) {
     io::write_all(STDOUT, &text);
 }
 
-// One frame of whole bytes with WP high, and its line; the record comes back.
+// One frame of whole bytes with WP high that takes no time, and its line; the record comes back.
 fn turn(
     device: Device,
     settings: Settings,
@@ -68,6 +68,7 @@ fn turn(
         bits: 8 * bytes as u64,
         wp: true,
         elapsed,
+        pace: 0,
     };
     let answer = frame(device, settings, array, register, input, signals, output);
     let after = answer.device;

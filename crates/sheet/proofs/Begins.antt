@@ -19,7 +19,7 @@ use Rattle.settings.specs.declared.Settings.{Settings}
 use Rattle.sheet.specs.declared.judge.Facts.{Facts}
 use Rattle.sheet.specs.declared.judge.Judged.{Judged}
 use Rattle.sheet.specs.Begins.{changesArray, worksOnArray, meansArray, readyByOpcode, ready}
-use Rattle.sheet.specs.Device.{awake, deep, ultraDeep, isBusy, moved, woken, reset}
+use Rattle.sheet.specs.Device.{awake, deep, ultraDeep, moved, woken, reset}
 use Rattle.sheet.specs.Judging.{nothing, control, aborted, onBoundary, complete, ordered, carried, worked, obeyed, byOpcode, asleep, judged}
 
 abbrev changes : Judged → Bool
@@ -115,13 +115,13 @@ stepped-when : (r : Row) (d : Device) (s : Settings) (f : Facts) → rule r ≡ 
     (cond (ultraDeep m) (control (woken d))
     (cond (ltb (f .bits) 8) (nothing d)
     (cond (deep m) (asleep d f)
-    (cond (isBusy d && not (r .busy)) (nothing d)
+    (cond (f .busy && not (r .busy)) (nothing d)
     (byOpcode r d s f)))))
-    ≡ (awake m && (not (isBusy d) && (not (ltb (f .bits) 8) && readyByOpcode r d f)))
+    ≡ (awake m && (not (f .busy) && (not (ltb (f .bits) 8) && readyByOpcode r d f)))
 stepped-when r d s f k UltraDeep = refl
 stepped-when r d s f k Deep =
     either (ltb (f .bits) 8) (nothing d) (asleep d f) refl (either (eqb (f .code) 0xAB && onBoundary f) (control (moved d Awake)) (nothing d) refl refl)
-stepped-when r d s f k Awake = heard-when r d s f (ltb (f .bits) 8) (isBusy d) k
+stepped-when r d s f k Awake = heard-when r d s f (ltb (f .bits) 8) (f .busy) k
 
 -- A frame begins an operation on the array exactly when all of this holds.
 pub exactly-when : (d : Device) (s : Settings) (f : Facts) → changesArray (judged d s f .action) ≡ ready d f

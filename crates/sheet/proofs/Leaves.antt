@@ -1,5 +1,5 @@
 -- What holds of each answer that judging can give holds of judging: one law, and its uses. Assumes nothing.
-use Prim.Native.Nat.{ℕ, _+_, _≤_}
+use Prim.Native.Nat.{_+_, _≤_}
 use mathlib.Core.Bool.{Bool, true, false, true≢false, false≢true, cond, not, _&&_, _||_, and-true, and-false, and-eq-true-iff, Bool·beq}
 use mathlib.Core.Logic.{_≢_}
 use mathlib.Core.Path.{_≡_, refl, sym, ap, subst, _∙_}
@@ -33,22 +33,22 @@ use Rattle.sheet.specs.Device.{awake, deep, ultraDeep, isBusy, unsound, 
 use Rattle.sheet.specs.Judging.{quiet, nothing, control, aborted, driven, read, eraseKind, programKind, barred, ordered, carried, obeyed, complete, byOpcode, asleep, onBoundary, judged}
 use Rattle.sheet.proofs.Records.{sound-then, then-sound}
 
--- A frame is heard: the part is awake, and idle unless a busy part answers the row.
-pub record Heard (d : Device) (r : Row) : Type 0 where
+-- A frame is heard: the part is awake, and was idle at the first bit unless a busy part answers the row.
+pub record Heard (d : Device) (f : Facts) : Type 0 where
   pub up : awake (d .mode) ≡ true
-  pub answers : (isBusy d && not (r .busy)) ≡ false
+  pub answers : (f .busy && not (rowOf (f .code) .busy)) ≡ false
 
 -- An answer is nothing, a waking from either sleep, an abort, or what the command of a heard frame gives.
 module _ (d : Device) (s : Settings) (f : Facts) (P : Judged → Type 0) (still : P (nothing d)) (waking : ultraDeep (d .mode) ≡ true → P (control (woken d)))
     (rousing : deep (d .mode) ≡ true → P (control (moved d Awake))) (aborting : P (aborted d))
     (reading : (source : Source) → rowOf (f .code) .command ≡ Reads source → P (read (rowOf (f .code)) source d f))
-    (ordering : (order : Order) → rowOf (f .code) .command ≡ Orders order → Heard d (rowOf (f .code)) → P (ordered order d f))
-    (carrying : (work : Work) → rowOf (f .code) .command ≡ Works work → Heard d (rowOf (f .code)) → barred work d f ≡ false → P (carried work d s f)) where
+    (ordering : (order : Order) → rowOf (f .code) .command ≡ Orders order → Heard d f → P (ordered order d f))
+    (carrying : (work : Work) → rowOf (f .code) .command ≡ Works work → Heard d f → barred work d f ≡ false → P (carried work d s f)) where
   choice : (b : Bool) (x y : Judged) → (b ≡ true → P x) → (b ≡ false → P y) → P (cond b x y)
   choice true x y p q = p refl
   choice false x y p q = q refl
 
-  of-command : (command : Command) → rowOf (f .code) .command ≡ command → Heard d (rowOf (f .code)) → P (obeyed command (rowOf (f .code)) d s f)
+  of-command : (command : Command) → rowOf (f .code) .command ≡ command → Heard d f → P (obeyed command (rowOf (f .code)) d s f)
   of-command Unlisted e h = still
   of-command (Reads source) e h = reading source e
   of-command (Orders order) e h = ordering order e h
@@ -71,7 +71,7 @@ module _ (d : Device) (s : Settings) (f : Facts) (P : Judged → Type 0) (still 
   unfolding judged
   each-answer =
       let r = rowOf (f .code) in
-      let heard = cond (isBusy d && not (r .busy)) (nothing d) (byOpcode r d s f) in
+      let heard = cond (f .busy && not (r .busy)) (nothing d) (byOpcode r d s f) in
       choice (ultraDeep (d .mode)) (control (woken d)) (cond (ltb (f .bits) 8) (nothing d) (cond (deep (d .mode)) (asleep d f) heard)) waking
       (λ u.
       choice (ltb (f .bits) 8) (nothing d) (cond (deep (d .mode)) (asleep d f) heard) (λ t. still)
@@ -79,7 +79,7 @@ module _ (d : Device) (s : Settings) (f : Facts) (P : Judged → Type 0) (still 
       choice (deep (d .mode)) (asleep d f) heard
       (λ e. choice (eqb (f .code) 0xAB && onBoundary f) (control (moved d Awake)) (nothing d) (λ t. rousing e) (λ t. still))
       (λ e.
-      choice (isBusy d && not (r .busy)) (nothing d) (byOpcode r d s f) (λ t. still)
+      choice (f .busy && not (r .busy)) (nothing d) (byOpcode r d s f) (λ t. still)
       (λ a. of-opcode r (of-command (r .command) refl (record { up = neither (d .mode) u e; answers = a }))))))
 
 -- The same for what does not care how a quiet answer came about: an answer is quiet, a read, or a command carried out.
@@ -149,33 +149,34 @@ reset-still d s f r =
     isOrder (Works work) = false
 
 -- a control command that a busy part does not answer finds the part idle
-idle-order : (d : Device) (code : ℕ) (order : Order) → rowOf code .command ≡ Orders order → orderedWhileBusy order ≡ false → Heard d (rowOf code) → isBusy d ≡ false
-idle-order d code order e o h =
-    let r = rowOf code in
-    let kept : ruleOf (Orders order) r ≡ true = subst (λ (c : Command). ruleOf c r ≡ true) e (rule-kept code) in
+idle-order : (d : Device) (f : Facts) (order : Order) → rowOf (f .code) .command ≡ Orders order → orderedWhileBusy order ≡ false → Heard d f → f .busy ≡ false
+idle-order d f order e o h =
+    let r = rowOf (f .code) in
+    let kept : ruleOf (Orders order) r ≡ true = subst (λ (c : Command). ruleOf c r ≡ true) e (rule-kept (f .code)) in
     let answers : Bool·beq (r .busy) (orderedWhileBusy order) ≡ true =
     and-eq-true-iff (r .boundary && not (r .latch)) _ .0 (and-eq-true-iff _ (eqb (r .most) 0) .0 kept .0) .1 in
     by (r .busy) (rw o at answers) (h .answers)
   where
-    by : (b : Bool) → Bool·beq b false ≡ true → (isBusy d && not b) ≡ false → isBusy d ≡ false
+    by : (b : Bool) → Bool·beq b false ≡ true → (f .busy && not b) ≡ false → f .busy ≡ false
     by true n a = absurd (false≢true n)
-    by false n a = sym (and-true (isBusy d)) ∙ a
+    by false n a = sym (and-true (f .busy)) ∙ a
 
--- a record that is accepted gives one that is accepted, if the settings are
-pub stays-sound : (d : Device) (s : Settings) (f : Facts) → unsound d ≡ false → anyUnfair (s .ticks) ≡ false → unsound (judged d s f .device) ≡ false
-stays-sound d s f u fair =
+-- a record that is accepted gives one that is accepted, if the settings are, and if a part that was idle at the first bit is at the rise
+pub stays-sound : (d : Device) (s : Settings) (f : Facts) → unsound d ≡ false → anyUnfair (s .ticks) ≡ false → (f .busy ≡ false → isBusy d ≡ false)
+    → unsound (judged d s f .device) ≡ false
+stays-sound d s f u fair still =
     each-answer d s f (λ (j : Judged). unsound (j .device) ≡ false) u (λ m. awoken) (λ m. awoken) u (λ source e. u) of-order (λ work e h b. of-work work (h .up))
   where
     awoken : unsound (moved d Awake) ≡ false
     awoken = then-sound (moved d Awake) (record { short = sound-then d u .short; idle = λ n. absurd (true≢false n) })
 
-    asleep : (mode : Mode) (order : Order) → rowOf (f .code) .command ≡ Orders order → orderedWhileBusy order ≡ false → Heard d (rowOf (f .code))
+    asleep : (mode : Mode) (order : Order) → rowOf (f .code) .command ≡ Orders order → orderedWhileBusy order ≡ false → Heard d f
         → unsound (moved d mode) ≡ false
     asleep mode order e o h =
-        let none : d .busy ≤ 0 = ltb-false 0 (d .busy) (idle-order d (f .code) order e o h) in
+        let none : d .busy ≤ 0 = ltb-false 0 (d .busy) (still (idle-order d f order e o h)) in
         then-sound (moved d mode) (record { short = sound-then d u .short; idle = λ n. omega arith })
 
-    of-order : (order : Order) → rowOf (f .code) .command ≡ Orders order → Heard d (rowOf (f .code)) → unsound (ordered order d f .device) ≡ false
+    of-order : (order : Order) → rowOf (f .code) .command ≡ Orders order → Heard d f → unsound (ordered order d f .device) ≡ false
     of-order Enable e h = u
     of-order Disable e h = u
     of-order DeepPowerDown e h = asleep Deep DeepPowerDown e refl h

@@ -1,5 +1,5 @@
 -- What an accepted record is, in numbers, and that it stays one while time passes. Assumes nothing.
-use Prim.Native.Nat.{ℕ, _≤_}
+use Prim.Native.Nat.{ℕ, _-_, _≤_}
 use mathlib.Core.Bool.{Bool, true, false, true≢false, not, _&&_, _||_, and-false}
 use mathlib.Core.Path.{_≡_, refl}
 use native.Mathlib.Omega.{arith}
@@ -7,7 +7,7 @@ use borrow.Author.Tests.{ltb-false, le-ltb}
 use lib.Dec.{ltb}
 use Rattle.settings.specs.Settings.{longest}
 use Rattle.sheet.specs.declared.device.Device.{Device}
-use Rattle.sheet.specs.Device.{awake, unsound, passed}
+use Rattle.sheet.specs.Device.{awake, isBusy, unsound, passed}
 
 -- at most the longest duration, and no ticks left unless the part is awake
 pub record Sound (d : Device) : Type 0 where
@@ -31,7 +31,11 @@ then-sound d s = by (awake (d .mode)) refl
     by true m = rw (le-ltb longest (d .busy) (s .short), m) (and-false (ltb 0 (d .busy)))
     by false m = rw (s .idle m)
 
--- time passes
+-- time passes: an idle part stays idle
+pub stays-idle : (d : Device) (ticks : ℕ) → isBusy d ≡ false → isBusy (passed d ticks) ≡ false
+stays-idle d ticks e = let none : d .busy ≤ 0 = ltb-false 0 (d .busy) e in le-ltb 0 (d .busy - ticks) (omega arith)
+
+-- and an accepted record one that is accepted
 pub passed-sound : (d : Device) (ticks : ℕ) → unsound d ≡ false → unsound (passed d ticks) ≡ false
 passed-sound d ticks e =
     let s = sound-then d e in

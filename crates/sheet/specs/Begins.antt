@@ -9,7 +9,7 @@ use Rattle.opcodes.specs.Rows.{rowOf}
 use Rattle.sheet.specs.declared.device.Device.{Device}
 use Rattle.sheet.specs.declared.judge.Action.{Action}
 use Rattle.sheet.specs.declared.judge.Facts.{Facts}
-use Rattle.sheet.specs.Device.{awake, isBusy}
+use Rattle.sheet.specs.Device.{awake}
 use Rattle.sheet.specs.Judging.{onBoundary}
 
 -- the action programs or erases the array
@@ -52,6 +52,6 @@ asksFor (Works work) = workAsks work
 abbrev pub readyByOpcode : Row → Device → Facts → Bool
 readyByOpcode r d f = meansArray (r .command) && (leb (r .bytes) (f .bytes) && (onBoundary f && (d .wel && not (d .bp0))))
 
--- and awake, idle, with a whole opcode
+-- and awake, idle at its first bit, with a whole opcode
 abbrev pub ready : Device → Facts → Bool
-ready d f = awake (d .mode) && (not (isBusy d) && (not (ltb (f .bits) 8) && readyByOpcode (rowOf (f .code)) d f))
+ready d f = awake (d .mode) && (not (f .busy) && (not (ltb (f .bits) 8) && readyByOpcode (rowOf (f .code)) d f))

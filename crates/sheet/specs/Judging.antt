@@ -1,4 +1,4 @@
--- Judging a frame: from the record, the settings and the facts of the frame to the record afterwards, the outcome, the driven
+-- Judging a frame: from the record at its rise, the settings and the facts of the frame to the record afterwards, the outcome, the driven
 -- positions and what is to be done. What a memory holds is not among its arguments. Assumes nothing.
 use Prim.Native.Nat.{ℕ, _-_, _%_, min}
 use mathlib.Core.Bool.{Bool, false, cond, not, _&&_, _||_}
@@ -22,7 +22,7 @@ use Rattle.sheet.specs.declared.judge.Facts.{Facts}
 use Rattle.sheet.specs.declared.judge.Judged.{Judged}
 use Rattle.sheet.specs.declared.judge.Outcome.{Outcome}
 use Rattle.sheet.specs.declared.judge.Action.{Action}
-use Rattle.sheet.specs.Device.{deep, ultraDeep, isBusy, latched, dropped, moved, woken, working, reset, marked, written, enabled}
+use Rattle.sheet.specs.Device.{deep, ultraDeep, latched, dropped, moved, woken, working, reset, marked, written, enabled}
 use Rattle.settings.specs.Settings.{durationOf}
 
 -- an outcome with nothing driven and no memory to change
@@ -128,12 +128,12 @@ asleep d f = cond (eqb (f .code) 0xAB && onBoundary f) (control (moved d Awake))
 -- 1. from ultra-deep every frame wakes the part, however short
 -- 2. less than an opcode is nothing
 -- 3. in deep power-down, as `asleep` says
--- 4. while busy nothing but the rows that a busy part answers: 05h and F0h
+-- 4. busy at its first bit, nothing but the rows that a busy part answers: 05h and F0h
 -- 5. all else by opcode
 unfoldable pub judged : Device → Settings → Facts → Judged
 judged d s f =
     cond (ultraDeep (d .mode)) (control (woken d))
     (cond (ltb (f .bits) 8) (nothing d)
     (cond (deep (d .mode)) (asleep d f)
-    (cond (isBusy d && not (rowOf (f .code) .busy)) (nothing d)
+    (cond (f .busy && not (rowOf (f .code) .busy)) (nothing d)
     (byOpcode (rowOf (f .code)) d s f))))

@@ -1,5 +1,5 @@
-// Judging a frame: from the record, the settings and the facts of a frame to the record afterwards, the outcome, the driven positions
-// and what is to be done with the memories, whose contents it never sees.
+// Judging a frame: from the record at its rise, the settings and the facts of a frame to the record afterwards, the outcome, the driven
+// positions and what is to be done with the memories, whose contents it never sees.
 use crate::device::Device;
 use crate::device::Mode;
 use opcodes::Command;
@@ -13,13 +13,15 @@ use settings::Settings;
 ghost use mathlib.Core.Path.{_≡_};
 ghost use Rattle.sheet.specs.Judging as judging;
 
-// What is known of a frame without its data: the opcode, the second byte, the number of bytes, the bits clocked, whether WP is high.
+// What is known of a frame without its data: the opcode, the second byte, the number of bytes, the bits clocked, whether WP is high, and
+// whether the part was busy at the frame's first bit.
 pub struct Facts {
     pub code: u8,
     pub second: u8,
     pub bytes: usize,
     pub bits: u64,
     pub wp: bool,
+    pub busy: bool,
 }
 
 // The outcomes, by document 01's words.
@@ -288,7 +290,7 @@ pub fn judge(device: Device, settings: Settings, facts: Facts) -> Judged
         return asleep(device, facts);
     }
     let row = opcodes::row_of(facts.code);
-    if device.is_busy() & !row.busy {
+    if facts.busy & !row.busy {
         return quiet(Outcome::Nothing, device);
     }
     by_opcode(row, device, settings, facts)

@@ -1,7 +1,7 @@
 //! The words behind a subcommand: options with a value, options without, and the rest.
 use crate::complaint::{complaint, Complaint};
 use crate::image;
-use oxterin::{Part, Settings, Size};
+use oxterin::{Part, Settings, Signals, Size};
 
 /// What a subcommand was given.
 #[derive(Debug)]
@@ -155,6 +155,22 @@ pub fn level_of(name: &str) -> Option<bool> {
         "high" => Some(true),
         _ => None,
     }
+}
+
+/// How many ticks each byte position takes, which is at most 1,000.
+pub fn byte_ticks(text: &str) -> Option<u64> {
+    number(text).filter(|ticks| *ticks <= Signals::MOST_TICKS_PER_BYTE)
+}
+
+/// `--ticks-per-byte N`: how many ticks each byte position of a frame takes, none unless said.
+pub fn ticks_per_byte(given: &Given) -> Result<u64, Complaint> {
+    given.value("--ticks-per-byte").map_or(Ok(0), |text| {
+        byte_ticks(text).ok_or_else(|| {
+            complaint(format!(
+                "--ticks-per-byte {text}: each byte position takes a number of ticks from 0 to 1,000"
+            ))
+        })
+    })
 }
 
 /// `--wp low|high`: whether WP is high, which it is unless said.

@@ -1,7 +1,7 @@
 //! `oxterin run`: frames from text, answered line by line.
 use crate::complaint::{complain, complaint, Complaint};
 use crate::lines::answered;
-use crate::options::{level_of, number, part, wp_high, Given, PART_FLAGS, PART_HELP, PART_VALUED};
+use crate::options::{byte_ticks, level_of, number, part, ticks_per_byte, wp_high, Given, PART_FLAGS, PART_HELP, PART_VALUED};
 use crate::{image, say};
 use oxterin::{Answer, Part, Signals};
 use std::fs::File;
@@ -21,8 +21,10 @@ or a refused frame ends the run with an error that names the line, and then noth
   02 00 10 FE 11 22      the bytes of the frame, as pairs of hexadecimal digits
   05 00 /11              so many bits of it are clocked, here 11 of 16; without it all of them
   05 00 +2000            so many ticks elapse before it; without it none
+  05 00 00 00 @8         so many ticks pass with each of its bytes, a partial last one too, so that a status read
+                         sees busy fall; at most 1,000, and without it those of --ticks-per-byte
   01 84 wp=low           WP's level during it; without it that of --wp
-  /0                     a frame of no bits at all; so is +2000 or wp=low with nothing beside it
+  /0                     a frame of no bits at all; so is +2000, @8 or wp=low with nothing beside it
 
 Each is answered by the bytes sent, what the output read, and status byte 1 after the call:
 
@@ -30,8 +32,10 @@ Each is answered by the bytes sent, what the output read, and status byte 1 afte
 
 Options:
 {PART_HELP}  --wp low|high       WP's level where a line does not say (default high)
+  --ticks-per-byte N  ticks that pass with each byte of a frame where a line does not say, 0 (default) to 1000
   --save FILE         afterwards the array's content goes to FILE, whole; to a name in .hex or .ihex as Intel HEX
-  --explain           each line also says the outcome, the driven positions and the busy ticks left
+  --explain           each line also says the outcome, the driven positions, the ticks that the frame lasts, if
+                      any, and the busy ticks left
 "
     )
 }
@@ -41,6 +45,13 @@ Options:
 struct Frame {
     input: Vec<u8>,
     signals: Signals,
+}
+
+/// What holds for a frame where its line does not say.
+#[derive(Clone, Copy)]
+struct Unsaid {
+    wp_high: bool,
+    ticks_per_byte: u64,
 }
 
 /// What is wrong with a line: the column, the first being 1, and what to do about it.
@@ -61,17 +72,20 @@ impl Word<'_> {
 
 /// Answers frames line by line.
 pub fn run(words: &[String]) -> Result<(), Complaint> {
-    let valued = [&PART_VALUED[..], &["--save", "--wp"]].concat();
+    let valued = [&PART_VALUED[..], &["--save", "--wp", "--ticks-per-byte"]].concat();
     let flags = [&PART_FLAGS[..], &["--explain"]].concat();
     let given = Given::read(words, &valued, &flags)?;
     let mut part = part(&given)?;
-    let wp_high = wp_high(&given)?;
+    let unsaid = Unsaid {
+        wp_high: wp_high(&given)?,
+        ticks_per_byte: ticks_per_byte(&given)?,
+    };
     let (name, source) = source(&given.words)?;
     given.value("--save").map_or(Ok(()), image::check)?;
     for (index, line) in source.split(b'\n').enumerate() {
         let place = format!("{name}, line {}", index + 1);
         let line = line.map_err(|error| complaint(format!("{place}: {error}")))?;
-        let frame = read(&line, wp_high).map_err(|(column, words)| complaint(format!("{place}, column {column}: {words}")))?;
+        let frame = read(&line, unsaid).map_err(|(column, words)| complaint(format!("{place}, column {column}: {words}")))?;
         if let Some(frame) = frame {
             say(&answer(&mut part, &frame, given.has("--explain")).map_err(|words| complaint(format!("{place}: {words}")))?)?;
         }
@@ -133,10 +147,10 @@ fn words_of(text: &str) -> Vec<Word<'_>> {
 }
 
 /// The frame of a line, or none if the line has no words.
-fn read(line: &[u8], wp_high: bool) -> Result<Option<Frame>, Fault> {
+fn read(line: &[u8], unsaid: Unsaid) -> Result<Option<Frame>, Fault> {
     let words = words_of(text_of(line)?);
     let mut input = Vec::new();
-    let (mut bits, mut elapsed, mut level) = (None, None, None);
+    let (mut bits, mut elapsed, mut each, mut level) = (None, None, None, None);
     for word in &words {
         if let Some(count) = word.text.strip_prefix('/') {
             let count = number(count).ok_or_else(|| word.fault("behind / stands the number of bits clocked, such as /11"))?;
@@ -144,6 +158,9 @@ fn read(line: &[u8], wp_high: bool) -> Result<Option<Frame>, Fault> {
         } else if let Some(ticks) = word.text.strip_prefix('+') {
             let remedy = "behind + stands the number of ticks elapsed, up to 2^64 - 1, such as +2000";
             set_once(&mut elapsed, number(ticks).ok_or_else(|| word.fault(remedy))?, word)?;
+        } else if let Some(ticks) = word.text.strip_prefix('@') {
+            let remedy = "behind @ stands the number of ticks that each byte takes, at most 1,000, such as @8";
+            set_once(&mut each, byte_ticks(ticks).ok_or_else(|| word.fault(remedy))?, word)?;
         } else if let Some(name) = word.text.strip_prefix("wp=") {
             set_once(
                 &mut level,
@@ -156,8 +173,9 @@ fn read(line: &[u8], wp_high: bool) -> Result<Option<Frame>, Fault> {
     }
     let signals = Signals {
         bits: bits.unwrap_or(8 * input.len() as u64),
-        wp_high: level.unwrap_or(wp_high),
+        wp_high: level.unwrap_or(unsaid.wp_high),
         elapsed: elapsed.unwrap_or(0),
+        ticks_per_byte: each.unwrap_or(unsaid.ticks_per_byte),
     };
     Ok((!words.is_empty()).then_some(Frame { input, signals }))
 }
@@ -176,7 +194,7 @@ fn bytes(word: &Word<'_>) -> Result<Vec<u8>, Fault> {
         return Err((
             word.column + at,
             format!(
-                "{}: bytes are pairs of hexadecimal digits; /BITS, +TICKS and wp=low or wp=high may stand beside them",
+                "{}: bytes are pairs of hexadecimal digits; /BITS, +TICKS, @TICKS and wp=low or wp=high may stand beside them",
                 word.text
             ),
         ));
@@ -207,32 +225,51 @@ fn answer(part: &mut Part, frame: &Frame, explain: bool) -> Result<String, Strin
     })?;
     let mut line = answered(&frame.input, &exchange.output, part.status(frame.signals.wp_high)[0]);
     if explain {
-        line.push_str(&explained(&exchange.answer, part.record.busy));
+        line.push_str(&explained(&exchange.answer, frame.signals.frame_ticks(), part.record.busy));
     }
     line.push('\n');
     Ok(line)
 }
 
-/// Outcome, driven positions and busy ticks, in words.
-fn explained(answer: &Answer, busy: u64) -> String {
+/// Outcome, driven positions, the ticks that the frame lasted, if any, and busy ticks, in words.
+fn explained(answer: &Answer, lasted: u64, busy: u64) -> String {
     let driven = match answer.driven {
         0 => "drives nothing".to_string(),
         1 => format!("drives position {}", answer.first),
         driven => format!("drives positions {} to {}", answer.first, answer.first + driven - 1),
     };
+    let lasted = match lasted {
+        0 => String::new(),
+        lasted => format!("lasts {lasted} ticks, "),
+    };
     let busy = match busy {
         0 => "idle".to_string(),
         busy => format!("busy for {busy} ticks"),
     };
-    format!(" ({}, {driven}, {busy})", answer.outcome)
+    format!(" ({}, {driven}, {lasted}{busy})", answer.outcome)
 }
 
 #[cfg(test)]
 mod tests {
     use super::*;
 
+    /// WP high, and frames that take no time.
+    const PLAIN: Unsaid = Unsaid {
+        wp_high: true,
+        ticks_per_byte: 0,
+    };
+
     fn frame(input: &[u8], bits: u64, wp_high: bool, elapsed: u64) -> Option<Frame> {
-        let signals = Signals { bits, wp_high, elapsed };
+        slow_frame(input, bits, wp_high, elapsed, 0)
+    }
+
+    fn slow_frame(input: &[u8], bits: u64, wp_high: bool, elapsed: u64, ticks_per_byte: u64) -> Option<Frame> {
+        let signals = Signals {
+            bits,
+            wp_high,
+            elapsed,
+            ticks_per_byte,
+        };
         Some(Frame {
             input: input.to_vec(),
             signals,
@@ -241,28 +278,41 @@ mod tests {
 
     #[test]
     fn a_line_is_a_frame() {
-        assert_eq!(read(b"06", true), Ok(frame(&[6], 8, true, 0)));
-        assert_eq!(read(b" 0500 +2,000 # poll", true), Ok(frame(&[5, 0], 16, true, 2_000)));
-        assert_eq!(read(b"05 00 /11 wp=low", true), Ok(frame(&[5, 0], 11, false, 0)));
-        assert_eq!(read(b"/0", false), Ok(frame(&[], 0, false, 0)));
+        assert_eq!(read(b"06", PLAIN), Ok(frame(&[6], 8, true, 0)));
+        assert_eq!(read(b" 0500 +2,000 # poll", PLAIN), Ok(frame(&[5, 0], 16, true, 2_000)));
+        assert_eq!(read(b"05 00 /11 wp=low", PLAIN), Ok(frame(&[5, 0], 11, false, 0)));
+        let low = Unsaid { wp_high: false, ..PLAIN };
+        assert_eq!(read(b"/0", low), Ok(frame(&[], 0, false, 0)));
         assert_eq!(
-            read(b"ab /18446744073709551615 +18446744073709551615", true),
+            read(b"ab /18446744073709551615 +18446744073709551615", PLAIN),
             Ok(frame(&[0xAB], u64::MAX, true, u64::MAX))
         );
     }
 
     #[test]
+    fn a_line_says_the_ticks_of_each_byte_or_the_option_does() {
+        let slow = Unsaid {
+            ticks_per_byte: 8,
+            ..PLAIN
+        };
+        assert_eq!(read(b"05 00 @1,000 +3", PLAIN), Ok(slow_frame(&[5, 0], 16, true, 3, 1_000)));
+        assert_eq!(read(b"05 00", slow), Ok(slow_frame(&[5, 0], 16, true, 0, 8)));
+        assert_eq!(read(b"05 00 @0", slow), Ok(frame(&[5, 0], 16, true, 0)));
+        assert_eq!(read(b"@7", slow), Ok(slow_frame(&[], 0, true, 0, 7)));
+    }
+
+    #[test]
     fn nothing_and_comments_are_no_frame() {
-        assert_eq!(read(b"", true), Ok(None));
-        assert_eq!(read(b"  \t# 06", true), Ok(None));
-        assert_eq!(read(b"\r", true), Ok(None));
-        assert_eq!(read(b"# pr\xFCfen", true), Ok(None));
-        assert_eq!(read("\u{feff}06\r".as_bytes(), true), Ok(frame(&[6], 8, true, 0)));
+        assert_eq!(read(b"", PLAIN), Ok(None));
+        assert_eq!(read(b"  \t# 06", PLAIN), Ok(None));
+        assert_eq!(read(b"\r", PLAIN), Ok(None));
+        assert_eq!(read(b"# pr\xFCfen", PLAIN), Ok(None));
+        assert_eq!(read("\u{feff}06\r".as_bytes(), PLAIN), Ok(frame(&[6], 8, true, 0)));
     }
 
     #[test]
     fn a_fault_names_its_column() {
-        let column = |line: &str| read(line.as_bytes(), true).unwrap_err().0;
+        let column = |line: &str| read(line.as_bytes(), PLAIN).unwrap_err().0;
         assert_eq!(column("06 0x05"), 5);
         assert_eq!(column("06 123"), 4);
         assert_eq!(column("06 /x"), 4);
@@ -274,7 +324,11 @@ mod tests {
         assert_eq!(column("06 ++5"), 4);
         assert_eq!(column("06 /8 /8"), 7);
         assert_eq!(column("06 +1 wp=low +2"), 14);
+        assert_eq!(column("06 @"), 4);
+        assert_eq!(column("06 @x"), 4);
+        assert_eq!(column("06 @1001"), 4);
+        assert_eq!(column("06 @8 @8"), 7);
         assert_eq!(column("06\r05"), 3);
-        assert_eq!(read(b"06 \xFF", true).unwrap_err().0, 4);
+        assert_eq!(read(b"06 \xFF", PLAIN).unwrap_err().0, 4);
     }
 }

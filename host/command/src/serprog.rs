@@ -89,12 +89,13 @@ const LONGEST_DATA: [u8; 3] = [0xFC, 0x1F, 0x00];
 
 /// A part and the programmer that it is plugged in.
 ///
-/// Time passes by the clients' delays alone. As the protocol has it, `O_DELAY` only puts a delay in the operation buffer, `O_EXEC` makes
-/// the buffered delays pass and empties the buffer, and `O_SPIOP` goes past the buffer. What has passed is given to the next frame that
-/// the part accepts, whichever client sends it.
+/// Time passes by the clients' delays, and with each byte of a frame if that takes ticks. As the protocol has it, `O_DELAY` only puts a
+/// delay in the operation buffer, `O_EXEC` makes the buffered delays pass and empties the buffer, and `O_SPIOP` goes past the buffer. What
+/// has passed by delays is given to the next frame that the part accepts, whichever client sends it.
 pub struct Programmer {
     part: Part,
     wp_high: bool,
+    ticks_per_byte: u64,
     buffered: u64,
     elapsed: u64,
 }
@@ -117,6 +118,8 @@ pub enum Frame {
         input: Vec<u8>,
         /// Ticks since the frame before.
         elapsed: u64,
+        /// Ticks from its first bit to the rise of chip select.
+        lasted: u64,
         /// Output and answer.
         exchange: Exchange,
         /// Status byte 1 afterwards.
@@ -134,11 +137,12 @@ pub enum Frame {
 }
 
 impl Programmer {
-    /// A programmer with this part in it, WP being held at a level.
-    pub fn new(part: Part, wp_high: bool) -> Programmer {
+    /// A programmer with this part in it, WP being held at a level, that takes so many ticks for each byte of a frame.
+    pub fn new(part: Part, wp_high: bool, ticks_per_byte: u64) -> Programmer {
         Programmer {
             part,
             wp_high,
+            ticks_per_byte,
             buffered: 0,
             elapsed: 0,
         }
@@ -225,6 +229,7 @@ impl Programmer {
         let signals = Signals {
             wp_high: self.wp_high,
             elapsed,
+            ticks_per_byte: self.ticks_per_byte,
             ..Signals::whole(&input)
         };
         match self.part.frame(&input, signals) {
@@ -235,6 +240,7 @@ impl Programmer {
                 let frame = Frame::Taken {
                     input,
                     elapsed,
+                    lasted: signals.frame_ticks(),
                     exchange,
                     status,
                 };
@@ -258,7 +264,7 @@ fn choose_bus([buses]: [u8; 1]) -> Vec<u8> {
     ack_if(buses & SPI != 0, &[])
 }
 
-/// `S_SPI_FREQ`: a frame takes no time, so the clock may be any but 0 and is set as requested.
+/// `S_SPI_FREQ`: how long a byte takes is not the clients' to say, so the clock may be any but 0 and is set as requested.
 fn set_clock(hertz: [u8; 4]) -> Vec<u8> {
     ack_if(hertz != [0; 4], &hertz)
 }
@@ -335,7 +341,7 @@ mod tests {
 
     /// A programmer with a blank part, WP high.
     fn blank() -> Programmer {
-        Programmer::new(Part::blank(Size::Whole), true)
+        Programmer::new(Part::blank(Size::Whole), true, 0)
     }
 
     /// The replies to a stream of requests that ends behind the last of them.
@@ -427,6 +433,21 @@ mod tests {
     }
 
     #[test]
+    fn every_byte_of_a_frame_takes_its_ticks() {
+        let mut programmer = Programmer::new(Part::blank(Size::Whole), true, 8);
+        programmer.part.record.busy = 20;
+        let mut poll = &[0x13, 0x01, 0x00, 0x00, 0x04, 0x00, 0x00, 0x05][..];
+        let reply = programmer.reply(&mut poll).expect("whole").expect("a reply");
+        assert_eq!(reply.bytes, [0x06, 0x11, 0x01, 0x10, 0x00]);
+        let lasted = reply.frame.map(|frame| match frame {
+            Frame::Taken { lasted, .. } => lasted,
+            Frame::Refused { refusal, .. } => panic!("{refusal}"),
+        });
+        assert_eq!(lasted, Some(40));
+        assert_eq!((programmer.part.record.busy, programmer.elapsed), (0, 0));
+    }
+
+    #[test]
     fn sums_of_delays_stop_at_the_largest_number() {
         let mut programmer = blank();
         programmer.buffered = u64::MAX - 1;
@@ -450,10 +471,11 @@ mod tests {
             Some(Frame::Taken {
                 input,
                 elapsed,
+                lasted,
                 exchange,
                 status,
             }) => {
-                assert_eq!((input, elapsed, status), (vec![0x9F, 0, 0, 0, 0], 3, 0x10));
+                assert_eq!((input, elapsed, lasted, status), (vec![0x9F, 0, 0, 0, 0], 3, 0, 0x10));
                 assert_eq!(
                     (exchange.answer.outcome, exchange.answer.first, exchange.answer.driven),
                     (Outcome::Read, 1, 4)

@@ -18,6 +18,7 @@ Usage: oxterin serve [OPTIONS]
 
   --port N            the TCP port, at the loopback address only; 8025 (default), or 0 for any free one
 {PART_HELP}  --wp low|high       the level of WP; high is the default
+  --ticks-per-byte N  ticks that pass with each byte of a frame, 0 (default) to 1000
   --save OUT          where the array is saved, as Intel HEX if the name ends in .hex or .ihex; OUT may be
                       the --image file
   --log FILE          a line for each frame
@@ -33,9 +34,13 @@ Clients are served one after the other, and each finds the part as the one befor
 operation (13h) is one chip-select frame: the bytes sent, then a zero for each byte to be read. A frame
 has at most 8,192 bytes; a longer one is answered with NAK.
 
-Time passes by the clients' delays alone (0Eh, carried out by 0Fh): their microseconds are the ticks that
-elapse before the next frame, and nobody sleeps. A client that waits for the end of an operation has to
-send delays between its status reads, as flashrom does.
+Time passes by the clients' delays (0Eh, carried out by 0Fh): their microseconds are the ticks that elapse
+before the next frame, and nobody sleeps. Unless bytes take ticks, a client that waits for the end of an
+operation has to send delays between its status reads, as flashrom does.
+
+With --ticks-per-byte time also passes while bytes are clocked, N ticks for each byte of every frame, so
+that a client that polls with chip select held low, by one long status read, sees busy fall. The clock that
+a client sets (14h) is not heeded: choose N for it, such as 8 for 1 MHz if a tick is a microsecond.
 
 OUT is written whole, beside the old one, which it then replaces, each time a client has left; before the
 port is announced the server makes sure that it can be written. A server that is ended while a client is
@@ -43,9 +48,9 @@ there saves nothing more. The array alone is saved: the security register and th
 long as the server.
 
 A line of FILE has the bytes sent, what the output read, status byte 1 afterwards, the outcome, the first
-driven position and the number of driven positions, then the ticks elapsed before, if any. Of a frame over
-16 bytes the first 16 are shown, with its length at the end. A refused frame has its two lengths and the
-refusal.
+driven position and the number of driven positions, then the ticks elapsed before and those that the frame
+lasted, if any. Of a frame over 16 bytes the first 16 are shown, with its length at the end. A refused frame
+has its two lengths and the refusal.
 "
     )
 }
@@ -54,14 +59,14 @@ refusal.
 const PORT: u16 = 8025;
 
 /// The options beside those of the part that take a value.
-const VALUED: [&str; 4] = ["--port", "--wp", "--save", "--log"];
+const VALUED: [&str; 5] = ["--port", "--wp", "--ticks-per-byte", "--save", "--log"];
 /// Those that take none.
 const FLAGS: [&str; 1] = ["--once"];
 
 /// Serves the part to one client after the other.
 pub fn serve(words: &[String]) -> Result<(), Complaint> {
     let given = read(words)?;
-    let mut programmer = Programmer::new(options::part(&given)?, options::wp_high(&given)?);
+    let mut programmer = Programmer::new(options::part(&given)?, options::wp_high(&given)?, options::ticks_per_byte(&given)?);
     let listener = listen(port(&given)?)?;
     let mut log = given.value("--log").map(Log::open).transpose()?;
     given.value("--save").map_or(Ok(()), image::check)?;
@@ -205,6 +210,7 @@ fn line(frame: &Frame) -> String {
         Frame::Taken {
             input,
             elapsed,
+            lasted,
             exchange,
             status,
         } => {
@@ -214,6 +220,9 @@ fn line(frame: &Frame) -> String {
             let mut words = format!("{bytes} {} {} {}", answer.outcome, answer.first, answer.driven);
             if *elapsed > 0 {
                 words += &format!(" after {elapsed} ticks");
+            }
+            if *lasted > 0 {
+                words += &format!(" lasting {lasted} ticks");
             }
             if shown < input.len() {
                 words += &format!(" ({} bytes)", input.len());
@@ -230,21 +239,18 @@ mod tests {
     use oxterin::{Part, Refusal, Signals, Size};
 
     /// The line of a frame that a blank part takes.
-    fn taken(input: &[u8], elapsed: u64) -> String {
+    fn taken(input: &[u8], elapsed: u64, ticks_per_byte: u64) -> String {
         let mut part = Part::blank(Size::Whole);
-        let exchange = part
-            .frame(
-                input,
-                Signals {
-                    elapsed,
-                    ..Signals::whole(input)
-                },
-            )
-            .expect("the part takes it");
+        let signals = Signals {
+            elapsed,
+            ..Signals::whole(input).with_ticks_per_byte(ticks_per_byte)
+        };
+        let exchange = part.frame(input, signals).expect("the part takes it");
         let status = part.status(true)[0];
         line(&Frame::Taken {
             input: input.to_vec(),
             elapsed,
+            lasted: signals.frame_ticks(),
             exchange,
             status,
         })
@@ -252,9 +258,19 @@ mod tests {
 
     #[test]
     fn lines_have_bytes_status_outcome_and_driven_positions() {
-        assert_eq!(taken(&[0x06], 0), "06 > FF ST 12 control 0 0\n");
-        assert_eq!(taken(&[0x05, 0x00], 7), "05 00 > FF 10 ST 10 read 1 1 after 7 ticks\n");
-        assert_eq!(taken(&[], 0), "> ST 10 nothing 0 0\n");
+        assert_eq!(taken(&[0x06], 0, 0), "06 > FF ST 12 control 0 0\n");
+        assert_eq!(taken(&[0x05, 0x00], 7, 0), "05 00 > FF 10 ST 10 read 1 1 after 7 ticks\n");
+        assert_eq!(taken(&[], 0, 0), "> ST 10 nothing 0 0\n");
+    }
+
+    #[test]
+    fn lines_have_the_ticks_that_a_frame_lasted() {
+        assert_eq!(taken(&[0x06], 0, 8), "06 > FF ST 12 control 0 0 lasting 8 ticks\n");
+        assert_eq!(
+            taken(&[0x05, 0x00], 7, 8),
+            "05 00 > FF 10 ST 10 read 1 1 after 7 ticks lasting 16 ticks\n"
+        );
+        assert_eq!(taken(&[], 0, 8), "> ST 10 nothing 0 0\n");
     }
 
     #[test]
@@ -262,7 +278,7 @@ mod tests {
         let mut input = [0; 17];
         input[0] = 0x03;
         assert_eq!(
-            taken(&input, 0),
+            taken(&input, 0, 0),
             "03 00 00 00 00 00 00 00 00 00 00 00 00 00 00 00 > FF FF FF FF FF FF FF FF FF FF FF FF FF FF FF FF ST 10 read 4 13 (17 bytes)\n"
         );
     }

@@ -59,6 +59,62 @@ fn frames_are_answered_line_by_line() {
     assert_eq!(said(&output), expected);
 }
 
+/// The ticks that each byte of a frame takes, by its line or else by the option.
+///
+/// 20 ticks are left as the poll begins. At 8 ticks to a byte its positions 1 and 2 begin at 8 and 16, busy, 3 and 4 at 24 and 32, idle; at
+/// 5 to a byte positions 1, 2 and 3 begin at 5, 10 and 15, busy, and 4 at 20, idle; at 0 all are busy.
+#[test]
+fn busy_falls_inside_a_frame_whose_bytes_take_ticks() {
+    for (option, word, polled) in [
+        ("--ticks-per-byte=0", " @8", "FF 11 01 10 00 ST 10"),
+        ("--ticks-per-byte=8", "", "FF 11 01 10 00 ST 10"),
+        ("--ticks-per-byte=8", " @5", "FF 11 01 11 00 ST 10"),
+        ("--ticks-per-byte=8", " @0", "FF 11 01 11 01 ST 11"),
+        ("--ticks-per-byte=1,000", "", "FF 10 00 10 00 ST 10"),
+    ] {
+        let frames = format!("06\n02 00 00 00 01 02\n05 00 00 00 00{word}\n");
+        let output = oxterin(&["run", "--set", "longer-program=20", option], &frames);
+        assert!(output.status.success(), "{option}{word}");
+        let last = said(&output).lines().last();
+        assert_eq!(last, Some(format!("05 00 00 00 00 > {polled}").as_str()), "{option}{word}");
+    }
+}
+
+/// A byte program takes 12 ticks and a 4-KiB erase 50,000, from the end of their frames on.
+///
+/// The first poll has 4 ticks to a byte: its positions 1 and 2 begin at 4 and 8, busy, and 3 at 12, where none is left. The second has 8 to
+/// a byte and 20 ticks left as it begins: 1 and 2 begin at 8 and 16, busy, and 3 at 24, idle. Of the two reads in the end the first begins
+/// with 12 ticks left and is not heard; it lasts 40.
+#[test]
+fn the_example_polls_with_chip_select_held_low() {
+    let example = concat!(env!("CARGO_MANIFEST_DIR"), "/../../examples/poll.frames");
+    let output = oxterin(&["run", example, "--explain"], "");
+    assert!(output.status.success());
+    let expected = "06 > FF ST 12 (control, drives nothing, idle)\n\
+                    02 00 00 10 5A > FF FF FF FF FF ST 11 (begun, drives nothing, busy for 12 ticks)\n\
+                    05 00 00 00 00 00 > FF 11 01 10 00 10 ST 10 (read, drives positions 1 to 5, lasts 24 ticks, idle)\n\
+                    03 00 00 10 00 > FF FF FF FF 5A ST 10 (read, drives position 4, idle)\n\
+                    06 > FF ST 12 (control, drives nothing, idle)\n\
+                    20 00 00 00 > FF FF FF FF ST 11 (begun, drives nothing, lasts 32 ticks, busy for 50000 ticks)\n\
+                    05 00 00 00 > FF 11 01 10 ST 10 (read, drives positions 1 to 3, lasts 32 ticks, idle)\n\
+                    06 > FF ST 12 (control, drives nothing, idle)\n\
+                    02 00 00 11 A5 > FF FF FF FF FF ST 11 (begun, drives nothing, busy for 12 ticks)\n\
+                    03 00 00 10 00 > FF FF FF FF FF ST 10 (nothing, drives nothing, lasts 40 ticks, idle)\n\
+                    03 00 00 10 00 00 > FF FF FF FF FF A5 ST 10 (read, drives positions 4 to 5, idle)\n";
+    assert_eq!(said(&output), expected);
+}
+
+#[test]
+fn ticks_of_a_byte_that_are_too_many_name_their_place() {
+    let output = oxterin(&["run"], "06 @1000\n05 00 @1001\n");
+    assert_eq!(
+        complained(&output),
+        "oxterin: standard input, line 2, column 7: @1001: behind @ stands the number of ticks that each byte takes, \
+         at most 1,000, such as @8\n"
+    );
+    assert_eq!(said(&output), "06 > FF ST 12\n");
+}
+
 #[test]
 fn explanations_and_settings() {
     let words = ["run", "--set", "erase-4k=7", "--set=longer-program=3", "--explain", "-"];
@@ -118,7 +174,7 @@ fn a_bad_line_names_its_place_and_saves_nothing() {
     assert_eq!(
         complained(&output),
         "oxterin: standard input, line 2, column 11: 0O: bytes are pairs of hexadecimal digits; \
-         /BITS, +TICKS and wp=low or wp=high may stand beside them\n"
+         /BITS, +TICKS, @TICKS and wp=low or wp=high may stand beside them\n"
     );
     assert_eq!(said(&output), "06 > FF ST 12\n");
     assert!(!after.exists());
@@ -143,6 +199,9 @@ fn wrong_words_are_complained_of_with_a_remedy() {
         (&["run", "--set", "erase=1"], "page-erase"),
         (&["run", "--set", "chip-erase=0"], "from 1 to 60,000,000"),
         (&["run", "--wp", "up"], "low or high"),
+        (&["run", "--ticks-per-byte", "1001"], "1001: each byte position takes"),
+        (&["run", "--ticks-per-byte", "-1"], "from 0 to 1,000"),
+        (&["run", "--ticks-per-byte"], "wants a value"),
         (&["run", "a", "b"], "one file"),
         (&["run", "no such file"], "no such file"),
         (&["run", "--save", "no such folder/x"], "a folder that can be written"),
@@ -163,7 +222,7 @@ fn help_and_version() {
     }
     let version = oxterin(&["--version"], "");
     assert!(
-        said(&version).starts_with("oxterin 1.1.0\nproved library 1.1.0, built for "),
+        said(&version).starts_with("oxterin 1.2.0\nproved library 1.2.0, built for "),
         "{}",
         said(&version)
     );

@@ -272,6 +272,35 @@ fn delays_are_the_time_that_passes() {
     client.frame(&[0x05], &[0x10, 0x00]);
 }
 
+/// One long status read with chip select held low. A 4-KiB erase of 400 ticks is polled with 8 ticks to a byte: position 50 begins at 400,
+/// where none is left, so the first 49 status bytes are busy, 11h and 01h in turn, and those behind them idle, 00h and 10h in turn.
+#[test]
+fn a_client_that_holds_chip_select_low_sees_busy_fall() {
+    let server = Server::start(&["--set", "erase-4k=400", "--ticks-per-byte", "8"]);
+    let mut client = server.client();
+    client.frame(&[0x06], &[]);
+    client.frame(&[0x20, 0x00, 0x10, 0x00], &[]);
+    let mut polled = [0x11, 0x01].repeat(40);
+    for (index, byte) in polled.iter_mut().enumerate().skip(49) {
+        *byte = if index % 2 == 0 { 0x10 } else { 0x00 };
+    }
+    client.frame(&[0x05], &polled);
+    client.frame(&[0x05], &[0x10, 0x00]);
+}
+
+/// The bytes of a program take ticks, and its operation starts behind them. 7 of 20 ticks elapse by a delay, and 13 are left as a poll of 8
+/// ticks to a byte begins.
+#[test]
+fn delays_and_bytes_both_take_time() {
+    let server = Server::start(&["--set", "longer-program=20", "--ticks-per-byte=8"]);
+    let mut client = server.client();
+    client.frame(&[0x06], &[]);
+    client.frame(&[0x02, 0x00, 0x00, 0x00, 0x11, 0x22], &[]);
+    client.wait(7);
+    client.frame(&[0x05], &[0x11, 0x00, 0x10]);
+    client.frame(&[0x03, 0x00, 0x00, 0x00], &[0x11, 0x22]);
+}
+
 #[test]
 fn ticks_wait_for_a_frame_that_is_accepted_even_of_the_next_client() {
     let server = Server::start(&["--set", "chip-erase=1000"]);
@@ -505,6 +534,29 @@ fn the_log_has_a_line_for_each_frame() {
 }
 
 #[test]
+fn the_log_has_the_ticks_that_frames_lasted() {
+    let log = folder("lasting").join("log");
+    let mut server = Server::start(&["--once", "--log", word(&log), "--set", "longer-program=20", "--ticks-per-byte", "8"]);
+    let mut client = server.client();
+    client.frame(&[0x06], &[]);
+    client.frame(&[0x02, 0x00, 0x00, 0x00, 0x11, 0x22], &[]);
+    client.wait(7);
+    client.frame(&[0x05], &[0x11, 0x00]);
+    client.frame(&[], &[]);
+    client.frame(&[0x03, 0x00, 0x00, 0x00], &[&[0x11, 0x22][..], &[0xFF; 14]].concat());
+    drop(client);
+    assert!(server.ends_well());
+    let wanted = "\
+06 > FF ST 12 control 0 0 lasting 8 ticks
+02 00 00 00 11 22 > FF FF FF FF FF FF ST 11 begun 0 0 lasting 48 ticks
+05 00 00 > FF 11 00 ST 10 read 1 2 after 7 ticks lasting 24 ticks
+> ST 10 nothing 0 0
+03 00 00 00 00 00 00 00 00 00 00 00 00 00 00 00 > FF FF FF FF 11 22 FF FF FF FF FF FF FF FF FF FF ST 10 read 4 16 lasting 160 ticks (20 bytes)
+";
+    assert_eq!(fs::read_to_string(&log).expect("a log"), wanted);
+}
+
+#[test]
 fn wrong_options_are_named_with_their_remedy() {
     let folder = folder("wrong");
     let nowhere = folder.join("missing").join("file");
@@ -518,6 +570,8 @@ fn wrong_options_are_named_with_their_remedy() {
         (&["--once=1"], "--once=1", "--help"),
         (&["here"], "here", "--help"),
         (&["--wp", "up"], "--wp up", "low or high"),
+        (&["--ticks-per-byte", "1001"], "--ticks-per-byte 1001", "from 0 to 1,000"),
+        (&["--ticks-per-byte=x"], "--ticks-per-byte x", "from 0 to 1,000"),
         (&["--image", word(&short)], word(&short), "65,536 or 131,072"),
         (&["--port", "0", "--save", word(&nowhere)], word(&nowhere), "can be written"),
         (&["--port", "0", "--log", word(&nowhere)], word(&nowhere), "name a file"),
@@ -549,7 +603,7 @@ fn help_is_printed() {
     let Output { status, stdout, .. } = command(&["--help"]).output().expect("the command starts");
     assert!(status.success());
     let text = String::from_utf8(stdout).expect("text");
-    for option in "--port --size --image --set --bpl --bp0 --otp-used --wp --save --log --once".split(' ') {
+    for option in "--port --size --image --set --bpl --bp0 --otp-used --wp --ticks-per-byte --save --log --once".split(' ') {
         assert!(text.contains(&format!(" {option} ")), "{option}");
     }
 }

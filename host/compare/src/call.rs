@@ -36,12 +36,14 @@ pub struct Call {
     pub wp_high: bool,
     /// The ticks elapsed.
     pub elapsed: u64,
+    /// The ticks that each byte position of the frame takes.
+    pub ticks_per_byte: u64,
     /// The record handed over, if it is not the one that the call before gave back.
     pub record: Option<Record>,
 }
 
 impl Call {
-    /// All bits of these bytes to a part of 131,072 bytes with typical durations, WP high, no time elapsed.
+    /// All bits of these bytes to a part of 131,072 bytes with typical durations, WP high, no time elapsed and none taken.
     #[must_use]
     pub fn of(input: &[u8]) -> Call {
         Call {
@@ -53,6 +55,7 @@ impl Call {
             bits: 8 * input.len() as u64,
             wp_high: true,
             elapsed: 0,
+            ticks_per_byte: 0,
             record: None,
         }
     }
@@ -61,6 +64,18 @@ impl Call {
     #[must_use]
     pub fn opcode(&self) -> Option<u8> {
         self.input.first().copied()
+    }
+
+    /// How many byte positions the frame has, a partial last one among them.
+    #[must_use]
+    pub fn positions(&self) -> u64 {
+        self.bits.div_ceil(8)
+    }
+
+    /// The ticks for which a part with this record is still busy at the frame's first bit.
+    #[must_use]
+    pub fn busy_at_first_bit(&self, record: &Record) -> u64 {
+        record.busy.saturating_sub(self.elapsed)
     }
 }
 

@@ -7,6 +7,12 @@ use oxterin::{Mode, Record};
 /// The most ticks that a duration or a busy part may have.
 const TICK_LIMIT: u64 = 60_000_000;
 
+/// The most ticks that a byte position may take.
+const PACE_LIMIT: u64 = 1_000;
+
+/// So few ticks that a running operation can end inside a frame of some bytes.
+const FEW_TICKS: u64 = 5 * PACE_LIMIT;
+
 /// Numbers at which sums, differences and comparisons go wrong.
 const HOSTILE: [u64; 4] = [0, TICK_LIMIT + 1, 1 << 63, u64::MAX];
 
@@ -67,6 +73,7 @@ impl Generator {
             record: handed,
             ..Call::of(&input)
         };
+        call.ticks_per_byte = self.ticks_per_byte(call.busy_at_first_bit(&record), call.positions());
         self.unusual(&mut call);
         self.refusable(&mut call);
         call
@@ -107,7 +114,7 @@ impl Generator {
         }
     }
 
-    /// Mostly long enough for the running operation to end, and often just so.
+    /// Mostly long enough for the running operation to end, and often just so; else often so long that few ticks are left.
     fn elapsed(&mut self, record: &Record) -> u64 {
         if self.random.chance(20) {
             return self.random.pick(&HOSTILE);
@@ -118,8 +125,27 @@ impl Generator {
             (busy, 1) => busy.saturating_add(1),
             (busy, 2) => self.random.below(busy),
             (_, 3) => 0,
+            (busy, 4) => busy - self.random.below(busy.min(FEW_TICKS)),
             (busy, _) => busy,
         }
+    }
+
+    /// Mostly none or a few; else any, and often so many that an operation with these ticks left ends inside a frame of these positions.
+    fn ticks_per_byte(&mut self, left: u64, positions: u64) -> u64 {
+        match (left, self.random.below(10)) {
+            (_, 0..5) => 0,
+            (_, 5) => self.random.below(10),
+            (_, 6) => self.random.pick(&[1, PACE_LIMIT - 1, PACE_LIMIT]),
+            (0, _) => self.random.below(PACE_LIMIT),
+            _ => self.ticks_to_the_end(left, positions),
+        }
+    }
+
+    /// So many for each position that these ticks have passed near the beginning of one, or near the rise, if so many are accepted.
+    fn ticks_to_the_end(&mut self, left: u64, positions: u64) -> u64 {
+        let position = 1 + self.random.below(positions.max(1));
+        let (below, above) = (left / position, left.div_ceil(position));
+        self.random.pick(&[below, above]).min(PACE_LIMIT)
     }
 
     /// An opcode that a part in this state often hears, or any.
@@ -172,7 +198,8 @@ impl Generator {
         match opcode {
             0x02 | 0x9B => 4 + self.data(),
             0x03 | 0x0B | 0x77 => 4 + self.positions(),
-            0x05 | 0x9F | 0x15 => 1 + self.random.below(8),
+            0x05 => 1 + self.positions(),
+            0x9F | 0x15 => 1 + self.random.below(8),
             0x81 | 0x20 | 0x52 | 0xD8 => 4,
             0x01 | 0x31 | 0xF0 => 2,
             _ => 1,
@@ -252,6 +279,9 @@ impl Generator {
         }
         if self.random.chance(6) {
             call.durations[self.random.below(8) as usize] = self.random.pick(&HOSTILE);
+        }
+        if self.random.chance(6) {
+            call.ticks_per_byte = self.random.pick(&[PACE_LIMIT + 1, (1 << 32) + 1, 1 << 63, u64::MAX]);
         }
     }
 }

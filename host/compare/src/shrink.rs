@@ -2,12 +2,15 @@
 use crate::call::{usual_durations, Call};
 use oxterin::{Mode, Record};
 
+/// The most rounds of a shrink: numbers that are tied to each other can go down by a little in each, and on and on.
+const ROUNDS: usize = 20;
+
 /// The smallest series found that still fails: calls dropped, inputs shortened, bytes zeroed, numbers reduced.
 /// The series handed in has to fail.
 #[must_use]
 pub fn shrink(calls: Vec<Call>, fails: impl Fn(&[Call]) -> bool) -> Vec<Call> {
     let mut calls = calls;
-    loop {
+    for _ in 0..ROUNDS {
         let before = calls.clone();
         drop_calls(&mut calls, &fails);
         for place in 0..calls.len() {
@@ -17,9 +20,10 @@ pub fn shrink(calls: Vec<Call>, fails: impl Fn(&[Call]) -> bool) -> Vec<Call> {
             smaller_numbers(&mut calls, place, &fails);
         }
         if calls == before {
-            return calls;
+            break;
         }
     }
+    calls
 }
 
 /// Drops runs of calls, long ones first.
@@ -96,6 +100,7 @@ fn zeroed_input(calls: &mut [Call], place: usize, fails: &impl Fn(&[Call]) -> bo
 /// Makes the unusual numbers of a call 0, or else smaller.
 fn smaller_numbers(calls: &mut [Call], place: usize, fails: &impl Fn(&[Call]) -> bool) {
     reduce(calls, place, fails, |call| Some(&mut call.elapsed));
+    reduce(calls, place, fails, |call| Some(&mut call.ticks_per_byte));
     reduce(calls, place, fails, |call| {
         let usual = 8 * call.input.len() as u64;
         Some(&mut call.bits).filter(|bits| **bits != usual)
@@ -143,6 +148,7 @@ mod tests {
     use super::*;
     use crate::generator::Generator;
     use crate::random::Random;
+    use std::cell::Cell;
 
     #[test]
     fn what_a_failure_needs_remains_and_nothing_else() {
@@ -151,17 +157,21 @@ mod tests {
         let mut calls: Vec<Call> = (0..300).map(|_| generator.call(&record)).collect();
         calls[100] = Call {
             elapsed: 1 << 40,
+            ticks_per_byte: 1_000,
             wp_high: false,
             ..Call::of(&[0x02, 1, 2, 3, 4, 5, 6])
         };
         calls[200] = Call {
             bits: 31,
+            ticks_per_byte: u64::MAX,
             record: Some(Record { busy: 99, ..record }),
             ..Call::of(&[0x20, 0x77, 0x77, 0x77])
         };
         let shrunk = shrink(calls, |calls| {
             let program = calls.iter().position(|call| call.opcode() == Some(0x02) && call.elapsed >= 1_000);
-            let erase = calls.iter().rposition(|call| call.opcode() == Some(0x20) && call.bits % 8 > 2);
+            let erase = calls
+                .iter()
+                .rposition(|call| call.opcode() == Some(0x20) && call.bits % 8 > 2 && call.ticks_per_byte >= 7);
             program.zip(erase).is_some_and(|(program, erase)| program < erase)
         });
         let program = Call {
@@ -170,8 +180,34 @@ mod tests {
         };
         let erase = Call {
             bits: 3,
+            ticks_per_byte: 7,
             ..Call::of(&[0x20])
         };
         assert_eq!(shrunk, [program, erase]);
+    }
+
+    /// Busy that has to end inside a frame ties the ticks elapsed and the busy ticks: each keeps the other from going down far.
+    #[test]
+    fn numbers_that_are_tied_to_each_other_take_few_tries() {
+        let poll = Call {
+            elapsed: 50_000_000,
+            record: Some(Record {
+                busy: 50_000_003,
+                ..Record::fresh(false, false, false)
+            }),
+            ..Call::of(&[0x05])
+        };
+        let is_tied = |calls: &[Call]| {
+            let left = |call: &Call| call.record.map_or(0, |record| call.busy_at_first_bit(&record));
+            calls.iter().any(|call| (2..6).contains(&left(call)))
+        };
+        let tries = Cell::new(0);
+        let shrunk = shrink(vec![poll.clone()], |calls| {
+            tries.set(tries.get() + 1);
+            is_tied(calls)
+        });
+        assert!(is_tied(&shrunk));
+        assert!(shrunk[0].elapsed < poll.elapsed);
+        assert!(tries.get() < 10_000, "{}", tries.get());
     }
 }

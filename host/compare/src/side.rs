@@ -108,7 +108,7 @@ pub(crate) fn by_words(call: &Call, record: &Record, lent: Lent<'_>) -> Reply {
     let refusal = raw::frame(
         &mut words,
         &call.durations,
-        &[call.bits, call.wp_high.into(), call.elapsed],
+        &[call.bits, call.wp_high.into(), call.elapsed, call.ticks_per_byte],
         lent.array,
         lent.register,
         &call.input,
@@ -132,6 +132,7 @@ pub(crate) fn by_wrapper(call: &Call, record: &Record, lent: Lent<'_>) -> Reply 
         bits: call.bits,
         wp_high: call.wp_high,
         elapsed: call.elapsed,
+        ticks_per_byte: call.ticks_per_byte,
     };
     let settings = settings_of(&call.durations);
     match oxterin::frame(&mut after, &settings, lent.array, lent.register, &call.input, signals, lent.output) {
@@ -167,6 +168,7 @@ pub(crate) fn by_model(call: &Call, record: &Record, lent: Lent<'_>) -> Reply {
         bits: call.bits,
         wp_high: call.wp_high,
         elapsed: call.elapsed,
+        ticks_per_byte: call.ticks_per_byte,
     };
     let answer = model::frame(
         model_record(record),

@@ -5,13 +5,16 @@ use crate::reply::{Reply, OUTCOMES};
 use oxterin::{Mode, Record};
 use std::fmt;
 
+/// How many refusals there are.
+const REFUSALS: usize = 8;
+
 /// How many calls came to what.
 #[derive(Clone, Debug)]
 pub struct Tally {
     /// All calls.
     calls: u64,
     /// Refused calls by number; none has number 0.
-    refusals: [u64; 8],
+    refusals: [u64; REFUSALS + 1],
     /// Accepted calls by outcome.
     outcomes: [u64; OUTCOMES.len()],
     /// Those whose opcode was heard, by opcode and outcome.
@@ -20,17 +23,26 @@ pub struct Tally {
     wakes: u64,
     /// Resets that ended an operation.
     resets: u64,
+    /// Status reads that showed busy at first and no more in the end.
+    ends_shown: u64,
+    /// Frames ignored as busy although busy ended inside them.
+    ends_unheeded: u64,
+    /// Operations begun by a frame that took time itself.
+    begun_in_time: u64,
 }
 
 impl Default for Tally {
     fn default() -> Tally {
         Tally {
             calls: 0,
-            refusals: [0; 8],
+            refusals: [0; REFUSALS + 1],
             outcomes: [0; OUTCOMES.len()],
             by_opcode: vec![[0; OUTCOMES.len()]; 256],
             wakes: 0,
             resets: 0,
+            ends_shown: 0,
+            ends_unheeded: 0,
+            begun_in_time: 0,
         }
     }
 }
@@ -52,7 +64,12 @@ impl Tally {
             None => {}
         }
         let is_reset = opcode == Some(0xF0) && reply.outcome == "control";
-        self.resets += u64::from(is_reset && before.busy > call.elapsed);
+        self.resets += u64::from(is_reset && call.busy_at_first_bit(before) > 0);
+        let is_poll = opcode == Some(0x05) && reply.outcome == "read";
+        self.ends_shown += u64::from(is_poll && shows_the_end(before, call));
+        let is_ignored = reply.outcome == "nothing" && opcode.is_some_and(|opcode| is_heard_when_idle(before, opcode));
+        self.ends_unheeded += u64::from(is_ignored && ends_inside(before, call));
+        self.begun_in_time += u64::from(reply.outcome == "begun" && call.ticks_per_byte > 0);
     }
 
     /// Adds the counts of another run.
@@ -60,6 +77,9 @@ impl Tally {
         self.calls += other.calls;
         self.wakes += other.wakes;
         self.resets += other.resets;
+        self.ends_shown += other.ends_shown;
+        self.ends_unheeded += other.ends_unheeded;
+        self.begun_in_time += other.begun_in_time;
         add(&mut self.refusals, &other.refusals);
         add(&mut self.outcomes, &other.outcomes);
         for (counts, others) in self.by_opcode.iter_mut().zip(&other.by_opcode) {
@@ -112,6 +132,9 @@ impl Tally {
         want(self.outcomes[place("nothing")], "nothing".to_string());
         want(self.wakes, "a wake from ultra-deep".to_string());
         want(self.resets, "a reset while busy".to_string());
+        want(self.ends_shown, "a status read that shows the end of busy".to_string());
+        want(self.ends_unheeded, "a frame ignored although busy ended inside".to_string());
+        want(self.begun_in_time, "an operation begun by a frame that takes time".to_string());
         gaps
     }
 }
@@ -124,14 +147,35 @@ impl fmt::Display for Tally {
         }
         let refused: u64 = self.refusals.iter().sum();
         write!(f, " refused {:.1} %", 100.0 * refused as f64 / self.calls as f64)?;
-        write!(f, "\n  refusals 1 to 7: {:?}", &self.refusals[1..])?;
+        write!(f, "\n  refusals 1 to {REFUSALS}: {:?}", &self.refusals[1..])?;
         write!(f, "\n  wakes from ultra-deep {}, resets while busy {}", self.wakes, self.resets)?;
+        write!(f, "\n  ends of busy shown by a status read {}", self.ends_shown)?;
+        write!(f, ", frames ignored although busy ended inside {}", self.ends_unheeded)?;
+        write!(f, "\n  begun by a frame that takes time {}", self.begun_in_time)?;
         f.write_str("\n  begun:")?;
         for opcode in CHANGES {
             write!(f, " {opcode:02X}h {}", self.by_opcode[usize::from(opcode)][place("begun")])?;
         }
         Ok(())
     }
+}
+
+/// Whether a running operation ends inside the frame, or just at its rise.
+fn ends_inside(before: &Record, call: &Call) -> bool {
+    let left = call.busy_at_first_bit(before);
+    left > 0 && left <= call.positions() * call.ticks_per_byte
+}
+
+/// Whether a running operation ends so that position 1 shows busy and the last position does not.
+fn shows_the_end(before: &Record, call: &Call) -> bool {
+    let left = call.busy_at_first_bit(before);
+    let last = call.positions().saturating_sub(1);
+    left > call.ticks_per_byte && left <= last * call.ticks_per_byte
+}
+
+/// Whether an awake part that is not busy always comes to something with this opcode, whatever follows it.
+fn is_heard_when_idle(before: &Record, opcode: u8) -> bool {
+    READS.contains(&opcode) || (before.wel && CHANGES.contains(&opcode))
 }
 
 /// The number of an outcome's word.
@@ -146,5 +190,75 @@ fn place(outcome: &str) -> usize {
 fn add(counts: &mut [u64], others: &[u64]) {
     for (count, other) in counts.iter_mut().zip(others) {
         *count += other;
+    }
+}
+
+#[cfg(test)]
+mod tests {
+    use super::*;
+
+    /// An awake part with WEL set that is busy for so long.
+    fn busy(busy: u64) -> Record {
+        Record {
+            wel: true,
+            busy,
+            ..Record::fresh(false, false, false)
+        }
+    }
+
+    /// What is counted of a frame of whole bytes with 8 ticks for each, given the ticks left at its first bit and its outcome.
+    fn counted(input: &[u8], left: u64, outcome: &'static str) -> Tally {
+        let call = Call {
+            elapsed: 100,
+            ticks_per_byte: 8,
+            ..Call::of(input)
+        };
+        let before = busy(100 + left);
+        let reply = Reply {
+            outcome,
+            ..Reply::refused(0, &before)
+        };
+        let mut tally = Tally::default();
+        tally.note(&before, &call, &reply);
+        tally
+    }
+
+    #[test]
+    fn an_end_of_busy_shows_between_position_1_and_the_last() {
+        // Of five positions the first status byte is read after 8 ticks, and the last one after 32.
+        for (left, shown) in [(0, 0), (8, 0), (9, 1), (32, 1), (33, 0), (40, 0)] {
+            assert_eq!(counted(&[0x05, 0, 0, 0, 0], left, "read").ends_shown, shown, "{left}");
+        }
+        assert_eq!(counted(&[0x05], 1, "read").ends_shown, 0);
+        assert_eq!(counted(&[0x05, 0], 8, "read").ends_shown, 0);
+    }
+
+    #[test]
+    fn an_end_of_busy_is_unheeded_up_to_the_rise() {
+        // Four positions take 32 ticks.
+        for (left, unheeded) in [(0, 0), (1, 1), (32, 1), (33, 0)] {
+            for opcode in [0x03, 0x9F, 0x02, 0x20] {
+                let tally = counted(&[opcode, 0, 0, 0], left, "nothing");
+                assert_eq!(tally.ends_unheeded, unheeded, "{opcode:02X}h {left}");
+            }
+        }
+        for opcode in [0x00, 0xAB, 0xF0] {
+            assert_eq!(counted(&[opcode, 0, 0, 0], 1, "nothing").ends_unheeded, 0, "{opcode:02X}h");
+        }
+    }
+
+    #[test]
+    fn what_never_happened_is_a_gap() {
+        let gaps = Tally::default().gaps();
+        for gap in [
+            "refusal 8",
+            "a status read that shows the end of busy",
+            "a frame ignored although busy ended inside",
+            "an operation begun by a frame that takes time",
+        ] {
+            assert!(gaps.iter().any(|named| named == gap), "{gap}");
+        }
+        let begun = counted(&[0x60], 0, "begun").gaps();
+        assert!(!begun.iter().any(|gap| gap.starts_with("an operation begun")));
     }
 }

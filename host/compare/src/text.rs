@@ -6,6 +6,7 @@
 //! # a comment
 //! 06
 //! 02 00 00 FE 11 22*3 bits=55 wp=0 elapsed=5
+//! 05 00*4 ticks-per-byte=8
 //! - array=65536 register=127 output=0 record=0,0,1,0,0,0,5 durations=12,2000,7000,50000,400000,1600000,400,20000
 //! ```
 //!
@@ -46,6 +47,10 @@ fn line(call: &Call) -> String {
     say(call.bits != usual.bits, format!("bits={}", call.bits));
     say(call.wp_high != usual.wp_high, format!("wp={}", u8::from(call.wp_high)));
     say(call.elapsed != usual.elapsed, format!("elapsed={}", call.elapsed));
+    say(
+        call.ticks_per_byte != usual.ticks_per_byte,
+        format!("ticks-per-byte={}", call.ticks_per_byte),
+    );
     say(call.array != usual.array, format!("array={}", call.array));
     say(call.register != usual.register, format!("register={}", call.register));
     say(call.output != usual.output, format!("output={}", call.output));
@@ -109,6 +114,7 @@ fn read_field(call: &mut Call, field: &str) -> Result<(), String> {
         "bits" => call.bits = number(value)?,
         "wp" => call.wp_high = limited(value, 1)? == 1,
         "elapsed" => call.elapsed = number(value)?,
+        "ticks-per-byte" => call.ticks_per_byte = number(value)?,
         "array" => call.array = limited(value, ARRAY_ROOM)?,
         "register" => call.register = limited(value, REGISTER_ROOM)?,
         "output" => call.output = limited(value, OUTPUT_ROOM)?,
@@ -160,6 +166,22 @@ mod tests {
     }
 
     #[test]
+    fn ticks_per_byte_are_said_if_there_are_any() {
+        for (ticks_per_byte, line) in [
+            (0, "05 00*4\n"),
+            (8, "05 00*4 ticks-per-byte=8\n"),
+            (u64::MAX, "05 00*4 ticks-per-byte=18446744073709551615\n"),
+        ] {
+            let poll = Call {
+                ticks_per_byte,
+                ..Call::of(&[0x05, 0, 0, 0, 0])
+            };
+            assert_eq!(write(std::slice::from_ref(&poll)), line);
+            assert_eq!(read(line), Ok(vec![poll]));
+        }
+    }
+
+    #[test]
     fn comments_and_empty_lines_are_passed_over() {
         assert_eq!(read("# nothing\n\n  06  \n"), Ok(vec![Call::of(&[0x06])]));
     }
@@ -175,6 +197,8 @@ mod tests {
             "06 record=0,0,2,0,0,0,0",
             "06 record=0",
             "06 speed=3",
+            "06 ticks-per-byte=",
+            "06 ticks-per-byte=18446744073709551616",
             "06*66000",
         ] {
             assert!(read(line).is_err_and(|wrong| wrong.starts_with(line)), "{line}");

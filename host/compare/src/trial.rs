@@ -29,6 +29,8 @@ pub struct Trial {
     pattern: Memories,
     /// The record that the last call gave back.
     record: Record,
+    /// How many output bytes the last call wrote.
+    written: usize,
     /// How often the memories are compared.
     care: Care,
 }
@@ -47,6 +49,7 @@ impl Trial {
             kept: Memories::patterned(),
             pattern: Memories::patterned(),
             record: Record::fresh(false, false, false),
+            written: 0,
             care,
         }
     }
@@ -55,6 +58,12 @@ impl Trial {
     #[must_use]
     pub fn record(&self) -> &Record {
         &self.record
+    }
+
+    /// The output bytes that the last call wrote, on which the sides agree.
+    #[must_use]
+    pub fn output(&self) -> &[u8] {
+        &self.sides[MODEL].output[..self.written]
     }
 
     /// Runs a call on all sides, and gives what they agree on.
@@ -76,7 +85,8 @@ impl Trial {
         for (side, reply) in self.sides.iter().zip(replies) {
             found.reply(side.name, reply, &owed);
         }
-        self.compare_outputs(call, &reply, &mut found);
+        self.written = if reply.refusal == 0 { call.input.len().min(call.output) } else { 0 };
+        self.compare_outputs(&mut found);
         if reply.outcome == "begun" {
             self.kept.copy(&self.sides[MODEL].memories);
         }
@@ -115,13 +125,11 @@ impl Trial {
     }
 
     /// The written bytes are the model's, and all others are as before the call.
-    fn compare_outputs(&self, call: &Call, reply: &Reply, found: &mut Difference) {
-        let written = if reply.refusal == 0 { call.input.len().min(call.output) } else { 0 };
-        let model = &self.sides[MODEL].output;
+    fn compare_outputs(&self, found: &mut Difference) {
         for side in &self.sides {
-            let (output, rest) = side.output.split_at(written);
-            found.bytes(side.name, "output", output, &model[..written]);
-            found.bytes(side.name, "byte past the output", rest, &CANARY[written..side.output.len()]);
+            let (output, rest) = side.output.split_at(self.written);
+            found.bytes(side.name, "output", output, self.output());
+            found.bytes(side.name, "byte past the output", rest, &CANARY[self.written..side.output.len()]);
         }
     }
 
@@ -143,9 +151,10 @@ fn owed(model: &Reply, before: &Record) -> Reply {
     }
 }
 
-/// Whether an operation may begin, and cover up what a call before it did wrong.
+/// Whether an operation may begin, and cover up what a call before it did wrong. A part that is busy at the first bit begins none.
 fn may_begin(record: &Record, call: &Call) -> bool {
-    record.wel && record.mode == Mode::Awake && record.busy <= call.elapsed && call.opcode().is_some_and(|opcode| CHANGES.contains(&opcode))
+    let is_idle = record.mode == Mode::Awake && call.busy_at_first_bit(record) == 0;
+    record.wel && is_idle && call.opcode().is_some_and(|opcode| CHANGES.contains(&opcode))
 }
 
 #[cfg(test)]
@@ -153,7 +162,7 @@ mod tests {
     use super::*;
     use crate::side::Lent;
 
-    /// A write enable, an aborted program, a refused call, a read and an erase of the page that the program aimed at.
+    /// A write enable, an aborted program, a refused call, a read, an erase of the page that the program aimed at, and a poll of it.
     fn calls() -> Vec<Call> {
         let enable = Call::of(&[0x06]);
         let aborted = Call {
@@ -166,7 +175,12 @@ mod tests {
         };
         let read = Call::of(&[0x03, 0, 0, 0, 0, 0]);
         let erase = Call::of(&[0x81, 0, 0x10, 0]);
-        vec![enable.clone(), aborted, refused, read, enable, erase]
+        let poll = Call {
+            elapsed: 6_980,
+            ticks_per_byte: 8,
+            ..Call::of(&[0x05, 0, 0, 0, 0])
+        };
+        vec![enable.clone(), aborted, refused, read, enable, erase, poll]
     }
 
     /// The place of the first call that shows a difference when the face is replaced by this run.
@@ -208,6 +222,30 @@ mod tests {
         for sham in shams {
             assert_eq!(first_difference(sham, Care::WhenDue), Some(0));
         }
+    }
+
+    #[test]
+    fn a_frame_that_takes_no_time_is_a_difference() {
+        let sham: Run = |call, record, lent| {
+            let hasty = Call {
+                ticks_per_byte: 0,
+                ..call.clone()
+            };
+            by_words(&hasty, record, lent)
+        };
+        assert_eq!(first_difference(sham, Care::WhenDue), Some(6));
+    }
+
+    #[test]
+    fn the_output_is_what_the_last_call_wrote() {
+        let mut trial = Trial::new(Care::WhenDue);
+        for call in calls() {
+            trial.run(&call).expect("the sides agree");
+        }
+        // 7,000 ticks less 6,980 are 20: more than 8 and 16, fewer than 24.
+        assert_eq!(trial.output(), [0xFF, 0x11, 0x01, 0x10, 0x00]);
+        trial.run(&calls()[2]).expect("the sides agree");
+        assert_eq!(trial.output(), []);
     }
 
     #[test]

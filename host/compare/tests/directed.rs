@@ -6,14 +6,31 @@ use std::thread;
 /// The most bits of a directed frame: every command has all it needs by then, and every read drives two positions.
 const MOST_BITS: u64 = 64;
 
-/// How busy the part is, and for how long it was left alone: idle, busy beyond the frame's start, busy until just then.
-const BUSY_AND_ELAPSED: [(u64, u64); 3] = [(0, 3), (9, 8), (9, 9)];
+/// When a frame comes, and how long each of its positions takes.
+struct Timing {
+    busy: u64,
+    elapsed: u64,
+    ticks_per_byte: u64,
+}
+
+/// Idle, busy beyond the frame's start, and busy until just then, in frames that take no time; idle, and busy until after the beginning of
+/// position 4, in frames that take some.
+const TIMINGS: [Timing; 5] = [timing(0, 3, 0), timing(9, 8, 0), timing(9, 9, 0), timing(0, 3, 5), timing(29, 8, 5)];
+
+/// The timing of these numbers.
+const fn timing(busy: u64, elapsed: u64, ticks_per_byte: u64) -> Timing {
+    Timing {
+        busy,
+        elapsed,
+        ticks_per_byte,
+    }
+}
 
 /// The flags of the record and the level of WP, a bit each.
 const LEVELS: u32 = 6;
 
 /// How many frames are compared for one size.
-const FRAMES: u64 = 256 * (MOST_BITS + 1) * (1 << LEVELS) * 3 * BUSY_AND_ELAPSED.len() as u64;
+const FRAMES: u64 = 256 * (MOST_BITS + 1) * (1 << LEVELS) * 3 * TIMINGS.len() as u64;
 
 #[test]
 fn every_opcode_at_every_bit_count_in_every_state() {
@@ -74,11 +91,12 @@ impl Sweep {
         call.bits = bits;
         for levels in 0..1u32 << LEVELS {
             for mode in [Mode::Awake, Mode::Deep, Mode::UltraDeep] {
-                for (busy, elapsed) in BUSY_AND_ELAPSED {
+                for timing in &TIMINGS {
                     call.wp_high = levels & 1 != 0;
-                    call.elapsed = elapsed;
+                    call.elapsed = timing.elapsed;
+                    call.ticks_per_byte = timing.ticks_per_byte;
                     self.fill(opcode, &mut call.input);
-                    self.compare(&mut call, record_of(levels, mode, busy))?;
+                    self.compare(&mut call, record_of(levels, mode, timing.busy))?;
                 }
             }
         }

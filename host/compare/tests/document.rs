@@ -1,4 +1,5 @@
-//! Document 01's worked frames, limits, session and likely errors, its own values asserted on the proved part and on the model.
+//! Document 01's worked frames, limits, session and likely errors, its own values asserted on the proved part and on the model; and polls
+//! worked by hand.
 use compare::{model_word, model_words};
 use oxterin::{Outcome, Part, Signals, Size};
 
@@ -61,6 +62,13 @@ impl Pair {
         self
     }
 
+    /// The same, busy for so many ticks.
+    fn busy(mut self, ticks: u64) -> Pair {
+        self.part.record.busy = ticks;
+        self.model.record.busy = ticks;
+        self
+    }
+
     /// Any frame.
     fn frame(&mut self, input: &[u8], signals: Signals) -> Seen {
         let proved = self.proved_frame(input, signals);
@@ -73,6 +81,15 @@ impl Pair {
     /// All bits of these bytes, WP high, no time elapsed.
     fn send(&mut self, input: &[u8]) -> Seen {
         self.frame(input, Signals::whole(input))
+    }
+
+    /// All bits of these bytes, WP high, no time elapsed, so many ticks for each position.
+    fn clock(&mut self, input: &[u8], ticks_per_byte: u64) -> Seen {
+        let signals = Signals {
+            ticks_per_byte,
+            ..Signals::whole(input)
+        };
+        self.frame(input, signals)
     }
 
     /// A frame on the proved part.
@@ -128,6 +145,7 @@ impl Model {
             bits: signals.bits,
             wp_high: signals.wp_high,
             elapsed: signals.elapsed,
+            ticks_per_byte: signals.ticks_per_byte,
         };
         let mut output = vec![0; input.len()];
         let answer = model::frame(
@@ -151,12 +169,13 @@ impl Model {
     }
 }
 
-/// Signals of so many bits, WP high, no time elapsed.
+/// Signals of so many bits, WP high, no time elapsed and none taken.
 fn bits(bits: u64) -> Signals {
     Signals {
         bits,
         wp_high: true,
         elapsed: 0,
+        ticks_per_byte: 0,
     }
 }
 
@@ -308,6 +327,98 @@ mod worked_frames {
             };
             assert_eq!(pair.frame(input, signals).output, output);
             assert_eq!(pair.status(true), status);
+        }
+    }
+}
+
+/// Polls with chip select held low, worked by hand: the ticks that have passed at a position's first bit against those left at the frame's.
+mod worked_polls {
+    use super::*;
+
+    #[test]
+    fn busy_falls_inside_a_status_read() {
+        let mut pair = Pair::erased().busy(20);
+        let seen = pair.clock(&[0x05, 0, 0, 0, 0], 8);
+        // position   begins after   left of 20   shows
+        //        1        8 ticks           12   byte 1, busy: 11h
+        //        2       16                  4   byte 2, busy: 01h
+        //        3       24                  0   byte 1, idle: 10h
+        //        4       32                  0   byte 2, idle: 00h
+        // the rise       40                  0
+        assert_eq!(seen.output, [0xFF, 0x11, 0x01, 0x10, 0x00]);
+        assert_eq!((seen.outcome, seen.first, seen.driven), ("read", 1, 4));
+        assert_eq!(seen.record, [0, 0, 0, 0, 0, 0, 0]);
+    }
+
+    #[test]
+    fn busy_falls_at_the_first_bit_of_a_position() {
+        let mut pair = Pair::erased().busy(16);
+        let seen = pair.clock(&[0x05, 0, 0, 0, 0], 8);
+        // position   begins after   left of 16   shows
+        //        1        8 ticks            8   byte 1, busy: 11h
+        //        2       16                  0   byte 2, idle: 00h
+        //        3       24                  0   byte 1, idle: 10h
+        //        4       32                  0   byte 2, idle: 00h
+        assert_eq!(seen.output, [0xFF, 0x11, 0x00, 0x10, 0x00]);
+        assert_eq!(seen.record[6], 0);
+    }
+
+    #[test]
+    fn one_tick_is_left_at_the_first_bit_of_a_position() {
+        let mut pair = Pair::erased().busy(17);
+        let seen = pair.clock(&[0x05, 0, 0, 0, 0], 8);
+        // Position 2 begins after 16 ticks, and 1 of 17 is left: byte 2, busy: 01h. At position 3 none is.
+        assert_eq!(seen.output, [0xFF, 0x11, 0x01, 0x10, 0x00]);
+        assert_eq!(seen.record[6], 0);
+    }
+
+    #[test]
+    fn a_short_poll_leaves_busy_ticks_to_the_next() {
+        let mut pair = Pair::erased().busy(20);
+        // The first read takes 2 positions, 16 ticks, and leaves 4; the second has none left at its position 1, after 8.
+        let seen = pair.clock(&[0x05, 0], 8);
+        assert_eq!((seen.output, seen.record[6]), (vec![0xFF, 0x11], 4));
+        let seen = pair.clock(&[0x05, 0], 8);
+        assert_eq!((seen.output, seen.record[6]), (vec![0xFF, 0x10], 0));
+    }
+
+    #[test]
+    fn a_partial_byte_is_a_position() {
+        let mut pair = Pair::erased().busy(20);
+        let signals = Signals {
+            ticks_per_byte: 8,
+            ..bits(9)
+        };
+        // 9 bits are 2 positions, 16 ticks. Of 11h the first bit is clocked, a 0, and the other places read 1.
+        let seen = pair.frame(&[0x05, 0], signals);
+        assert_eq!((seen.output, seen.record[6]), (vec![0xFF, 0x7F], 4));
+    }
+
+    #[test]
+    fn an_operation_starts_at_the_rise() {
+        let mut pair = Pair::erased().latched();
+        // The program's 5 positions take 5,000 ticks, of which none comes off its own 12.
+        let seen = pair.clock(&program(0, &[0x00]), 1_000);
+        assert_eq!((seen.outcome, seen.record[6]), ("begun", 12));
+        // 12 ticks are more than 5 and 10, and fewer than 15.
+        let seen = pair.clock(&[0x05, 0, 0, 0], 5);
+        assert_eq!((seen.output, seen.record[6]), (vec![0xFF, 0x11, 0x01, 0x10], 0));
+    }
+
+    #[test]
+    fn a_frame_that_busy_does_not_outlast_is_still_ignored() {
+        let mut pair = Pair::erased().latched().busy(1);
+        let seen = pair.clock(&program(0, &[0x00]), 1);
+        assert_eq!((seen.outcome, seen.record[2], seen.record[6]), ("nothing", 1, 0));
+        pair.holds_only(0xFF, &[]);
+        assert_eq!(pair.clock(&program(0, &[0x00]), 1).outcome, "begun");
+    }
+
+    #[test]
+    fn the_most_ticks_per_byte() {
+        for (ticks_per_byte, refusal, left) in [(1_000, 0, 58_000), (1_001, 8, 60_000)] {
+            let seen = Pair::erased().busy(60_000).clock(&[0x05, 0], ticks_per_byte);
+            assert_eq!((seen.refusal, seen.record[6]), (refusal, left));
         }
     }
 }

@@ -5,6 +5,9 @@ use oxterin::{Mode, Record, Size};
 /// The most ticks that a duration or a busy part may have.
 const TICK_LIMIT: u64 = 60_000_000;
 
+/// The most ticks that a byte position may take.
+const PACE_LIMIT: u64 = 1_000;
+
 /// An awake and idle part that is ready to be programmed.
 fn ready() -> Record {
     Record {
@@ -181,8 +184,38 @@ fn seven_a_duration_out_of_bounds() {
 }
 
 #[test]
+fn eight_too_many_ticks_per_byte() {
+    let mut trial = Trial::new(Care::Always);
+    let refused = [
+        PACE_LIMIT + 1,
+        1 << 32,
+        (1 << 32) + 1,
+        1 << 63,
+        u64::MAX / 8_192,
+        u64::MAX - 7,
+        u64::MAX,
+    ];
+    let accepted = [0, 1, 8, PACE_LIMIT - 1, PACE_LIMIT];
+    for (ticks_per_byte, number) in accepted.map(|ticks| (ticks, 0)).into_iter().chain(refused.map(|ticks| (ticks, 8))) {
+        for (busy, elapsed) in [(0, 0), (50, 20), (TICK_LIMIT, 1), (50, u64::MAX)] {
+            for bytes in [0, 1, 5, 8_192] {
+                let call = Call {
+                    ticks_per_byte,
+                    elapsed,
+                    record: Some(Record { busy, ..ready() }),
+                    ..program(bytes)
+                };
+                for call in on_both_sizes(&call) {
+                    gives(&mut trial, &call, number);
+                }
+            }
+        }
+    }
+}
+
+#[test]
 fn of_any_refusals_together_the_lowest_wins() {
-    let spoil: [fn(&mut Call); 7] = [
+    let spoil: [fn(&mut Call); 8] = [
         |call| call.array = 65_537,
         |call| call.register = 127,
         |call| {
@@ -199,6 +232,7 @@ fn of_any_refusals_together_the_lowest_wins() {
             });
         },
         |call| call.durations[7] = 0,
+        |call| call.ticks_per_byte = PACE_LIMIT + 1,
     ];
     let mut trial = Trial::new(Care::Always);
     for chosen in 0u32..1 << spoil.len() {
@@ -239,7 +273,7 @@ mod unread {
             Frame {
                 record: vec![0, 0, 1, 0, 0, 0, 0],
                 settings: vec![12, 2_000, 7_000, 50_000, 400_000, 1_600_000, 400, 20_000],
-                signals: vec![40, 1, 0],
+                signals: vec![40, 1, 0, 0],
                 array: vec![0xA5; 65_536],
                 register: vec![0x5A; 128],
                 input: vec![0x02, 0, 0, 0, 0],
@@ -292,18 +326,34 @@ mod unread {
 
     #[test]
     fn a_frame_with_slices_of_another_length() {
-        let slices: [fn(&mut Frame) -> &mut Vec<u64>; 4] = [
-            |frame| &mut frame.record,
-            |frame| &mut frame.settings,
-            |frame| &mut frame.signals,
-            |frame| &mut frame.answer,
-        ];
+        let slices: [fn(&mut Frame) -> &mut Vec<u64>; 3] =
+            [|frame| &mut frame.record, |frame| &mut frame.settings, |frame| &mut frame.answer];
         for slice in slices {
             for words in other_lengths(slice(&mut Frame::accepted())) {
                 let mut frame = Frame::accepted();
                 *slice(&mut frame) = words;
                 frame.assert_unread();
             }
+        }
+    }
+
+    #[test]
+    fn a_frame_with_signals_of_neither_three_words_nor_four() {
+        for signals in [&[][..], &[40], &[40, 1], &[40, 1, 0, 0, 0], &[40, 1, 0, 8, 0, 0, 0, 0]] {
+            Frame {
+                signals: signals.to_vec(),
+                ..Frame::accepted()
+            }
+            .assert_unread();
+        }
+    }
+
+    #[test]
+    fn a_frame_with_any_ticks_per_byte_is_read() {
+        for (ticks, number) in [(0, 0), (1_000, 0), (1_001, 8), (u64::MAX, 8)] {
+            let mut frame = Frame::accepted();
+            frame.signals[3] = ticks;
+            assert_eq!(frame.run(), number, "{ticks}");
         }
     }
 
@@ -315,9 +365,13 @@ mod unread {
                 frame.record[place] = unknown;
                 frame.assert_unread();
             }
-            let mut frame = Frame::accepted();
-            frame.signals[1] = unknown;
-            frame.assert_unread();
+            for signals in [&[40, unknown, 0][..], &[40, unknown, 0, 0], &[40, unknown, 0, u64::MAX]] {
+                Frame {
+                    signals: signals.to_vec(),
+                    ..Frame::accepted()
+                }
+                .assert_unread();
+            }
         }
     }
 

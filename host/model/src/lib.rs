@@ -1,9 +1,11 @@
-//! A clocked reference model of the SPI flash part that document 01 describes.
+//! A clocked reference model of the SPI flash part that document 01 describes,
+//! with the time inside a frame that request R-2 gives it.
 //!
 //! One call of [`frame`] is one chip-select frame. Chip select falls, the bits
-//! pass through the shift registers of `machine::Machine` one at a time, and
-//! at the rise of chip select `rise::settle` turns what was gathered into
-//! changes of the record and of the two memories.
+//! pass through the shift registers of `machine::Machine` one at a time, the
+//! busy ticks run down as the byte positions go by, and at the rise of chip
+//! select `rise::settle` turns what was gathered into changes of the record
+//! and of the two memories.
 //!
 //! Apart from the frames, [`hex_write`] and [`hex_read`] turn an array into
 //! Intel HEX text and such a text into an array.
@@ -39,7 +41,8 @@ pub enum Outcome {
     Begun,
 }
 
-/// What the part sees on its pins besides the data, and how long it rested.
+/// What the part sees on its pins besides the data, and the ticks that pass
+/// before and in the frame.
 #[derive(Clone, Copy, Debug, PartialEq, Eq)]
 pub struct Pins {
     /// Clock pulses while chip select was low.
@@ -48,6 +51,8 @@ pub struct Pins {
     pub wp_high: bool,
     /// Ticks since the call before this one.
     pub elapsed: u64,
+    /// Ticks that each byte position of the frame takes, a partial last one too.
+    pub ticks_per_byte: u64,
 }
 
 /// Everything a call hands back besides the lent bytes.
@@ -94,13 +99,12 @@ pub fn frame(
         input: input.len(),
         output: output.len(),
     };
-    let refusal = refusals::judge(&lengths, &record, settings, pins.bits);
+    let refusal = refusals::judge(&lengths, &record, settings, &pins);
     if refusal != refusals::NONE {
         return Answer::refused(refusal, record);
     }
 
-    let record = record.rested(pins.elapsed);
-    let mut machine = Machine::fall(record, pins.wp_high, array, register);
+    let mut machine = Machine::fall(record.rested(pins.elapsed), &pins, array, register);
     let mut clocks_left = pins.bits;
     for (&byte, answer) in input.iter().zip(output) {
         let clocks = clocks_left.min(8);
@@ -110,7 +114,7 @@ pub fn frame(
     let gathered = machine.rise();
     let (first, driven) = (gathered.first, gathered.driven);
 
-    let (record, outcome) = rise::settle(gathered, record, settings, pins.wp_high, array, register);
+    let (record, outcome) = rise::settle(gathered, settings, pins.wp_high, array, register);
     Answer {
         refusal,
         outcome,

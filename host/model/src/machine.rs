@@ -1,10 +1,12 @@
 //! The clocked machine: two shift registers, an address counter and a phase
-//! that moves on at byte boundaries. It only gathers; nothing changes here.
+//! that moves on at byte boundaries. It only gathers; nothing changes here but
+//! the busy ticks, which run down as each byte position ends.
 
 use crate::decoder::{decode, Change, Command, Control, Source};
 use crate::page::{PageBuffer, OTP_PLACES, PAGE};
 use crate::record::Record;
 use crate::view::wired;
+use crate::Pins;
 
 /// What the next whole byte means to the machine.
 #[derive(Clone, Copy, Debug, PartialEq, Eq)]
@@ -27,10 +29,14 @@ enum Phase {
 
 /// The part's interface logic while chip select is low.
 pub(crate) struct Machine<'a> {
-    /// The record at the fall of chip select.
+    /// The record at the fall of chip select, by which the opcode is heard.
+    record_at_fall: Record,
+    /// The record now, its busy ticks running down.
     record: Record,
-    /// The status bytes at the fall of chip select.
-    status: [u8; 2],
+    /// Level of the write-protect pin.
+    wp_high: bool,
+    /// Ticks that each position takes.
+    ticks_per_byte: u64,
     /// The main array, to read from.
     array: &'a [u8],
     /// The security register, to read from.
@@ -61,6 +67,8 @@ pub(crate) struct Machine<'a> {
 
 /// What the machine knows when chip select rises.
 pub(crate) struct Gathered {
+    /// The record, the ticks of the whole frame gone by.
+    pub(crate) record: Record,
     /// The command heard, if any.
     pub(crate) command: Option<Command>,
     /// Chip select rose on a byte boundary with all needed bytes clocked in.
@@ -78,11 +86,13 @@ pub(crate) struct Gathered {
 }
 
 impl<'a> Machine<'a> {
-    /// Chip select falls; the status bytes are taken as they stand now.
-    pub(crate) fn fall(record: Record, wp_high: bool, array: &'a [u8], register: &'a [u8]) -> Machine<'a> {
+    /// Chip select falls; what the part can hear is fixed as it stands now.
+    pub(crate) fn fall(record: Record, pins: &Pins, array: &'a [u8], register: &'a [u8]) -> Machine<'a> {
         Machine {
+            record_at_fall: record,
             record,
-            status: record.status(wp_high),
+            wp_high: pins.wp_high,
+            ticks_per_byte: pins.ticks_per_byte,
             array,
             register,
             phase: Phase::Opcode,
@@ -113,13 +123,18 @@ impl<'a> Machine<'a> {
             self.bits = 0;
             self.position += 1;
             self.phase = self.follow(self.shift_in);
+            self.pass_position();
         }
         answer
     }
 
-    /// Chip select rises.
-    pub(crate) fn rise(self) -> Gathered {
+    /// Chip select rises; a position begun ends here.
+    pub(crate) fn rise(mut self) -> Gathered {
+        if self.bits > 0 {
+            self.pass_position();
+        }
         Gathered {
+            record: self.record,
             command: self.command,
             complete: self.is_complete(),
             address: self.address,
@@ -128,6 +143,11 @@ impl<'a> Machine<'a> {
             first: self.first,
             driven: self.driven,
         }
+    }
+
+    /// The ticks of one position go by.
+    fn pass_position(&mut self) {
+        self.record = self.record.rested(self.ticks_per_byte);
     }
 
     /// Whether a control or changing command has come to its end in order.
@@ -155,7 +175,7 @@ impl<'a> Machine<'a> {
         self.shift_out = byte;
     }
 
-    /// The byte the source has at the address counter, if it has one.
+    /// The byte the source has now at the address counter, if it has one.
     fn next_output(&self) -> Option<u8> {
         let Phase::Drive(source) = self.phase else {
             return None;
@@ -163,7 +183,7 @@ impl<'a> Machine<'a> {
         match source {
             Source::Array => Some(round(self.array, self.address)),
             Source::Register => Some(round(self.register, self.address)),
-            Source::Status => Some(round(&self.status, self.address)),
+            Source::Status => Some(round(&self.record.status(self.wp_high), self.address)),
             Source::Fixed(bytes) => bytes.get(self.address).copied(),
         }
     }
@@ -189,7 +209,7 @@ impl<'a> Machine<'a> {
 
     /// The opcode is in: decodes it and gives the phase after it.
     fn begin(&mut self, opcode: u8) -> Phase {
-        self.command = decode(opcode, &self.record);
+        self.command = decode(opcode, &self.record_at_fall);
         match self.command {
             Some(command) if command.is_addressed() => Phase::Address(3),
             _ => self.filler_phase(),

@@ -2,6 +2,7 @@
 
 use crate::record::{Mode, Record, Settings};
 use crate::view::{is_array_length, is_register_length};
+use crate::Pins;
 
 /// The number that stands for an accepted call.
 pub(crate) const NONE: u8 = 0;
@@ -11,6 +12,9 @@ const INPUT_LIMIT: usize = 8_192;
 
 /// Longest time the part may still be busy, and longest duration, in ticks.
 const TICK_LIMIT: u64 = 60_000_000;
+
+/// Longest time a byte position may take, in ticks.
+const POSITION_TICK_LIMIT: u64 = 1_000;
 
 /// Lengths of everything the caller lends.
 pub(crate) struct Lengths {
@@ -24,16 +28,18 @@ pub(crate) struct Lengths {
     pub(crate) output: usize,
 }
 
-/// The number of the first check that fails, in document 01's numbering.
-pub(crate) fn judge(lengths: &Lengths, record: &Record, settings: &Settings, bits: u64) -> u8 {
+/// The number of the first check that fails, in document 01's numbering, which
+/// request R-2 continues.
+pub(crate) fn judge(lengths: &Lengths, record: &Record, settings: &Settings, pins: &Pins) -> u8 {
     let faults = [
         (1, !is_array_length(lengths.array)),
         (2, !is_register_length(lengths.register)),
         (3, lengths.input > INPUT_LIMIT),
-        (4, !carries(lengths.input, bits)),
+        (4, !carries(lengths.input, pins.bits)),
         (5, lengths.output < lengths.input),
         (6, !is_sound(record)),
         (7, !settings.durations.iter().all(is_duration)),
+        (8, pins.ticks_per_byte > POSITION_TICK_LIMIT),
     ];
     faults.into_iter().find(|&(_, given)| given).map_or(NONE, |(number, _)| number)
 }

@@ -20,14 +20,8 @@ const BP0_BIT: u8 = 1 << 2;
 const RSTE_BIT: u8 = 1 << 4;
 
 /// Ends a frame: the record afterwards, the outcome, and the memory changes.
-pub(crate) fn settle(
-    gathered: Gathered,
-    record: Record,
-    settings: &Settings,
-    wp_high: bool,
-    array: &mut [u8],
-    register: &mut [u8],
-) -> (Record, Outcome) {
+pub(crate) fn settle(gathered: Gathered, settings: &Settings, wp_high: bool, array: &mut [u8], register: &mut [u8]) -> (Record, Outcome) {
+    let record = gathered.record;
     if record.mode == Mode::UltraDeep {
         return (roused(record), Outcome::Control);
     }

@@ -1,4 +1,5 @@
-//! Frames of document 01 and frames worked out by hand from its rules.
+//! Frames of document 01 and frames worked out by hand from its rules and from
+//! those of request R-2.
 
 use model::{frame, look, Answer, Memory, Mode, Outcome, Pins, Record, Settings};
 
@@ -21,10 +22,12 @@ struct Part {
     array: Vec<u8>,
     register: Vec<u8>,
     wp_high: bool,
+    ticks_per_byte: u64,
 }
 
 impl Part {
-    /// An erased part of that array size, unprotected, WP high.
+    /// An erased part of that array size, unprotected, WP high, whose frames
+    /// take no time.
     fn erased(size: usize) -> Part {
         Part {
             record: Record::fresh(false, false, false),
@@ -32,6 +35,7 @@ impl Part {
             array: vec![0xFF; size],
             register: vec![0xFF; 128],
             wp_high: true,
+            ticks_per_byte: 0,
         }
     }
 
@@ -71,6 +75,12 @@ impl Part {
         self
     }
 
+    /// The same part, each byte position taking that many ticks.
+    fn at_pace(mut self, ticks_per_byte: u64) -> Part {
+        self.ticks_per_byte = ticks_per_byte;
+        self
+    }
+
     /// Sends some bits after some ticks; the record follows.
     fn clock(&mut self, input: &[u8], bits: u64, elapsed: u64) -> (Answer, Vec<u8>) {
         let mut output = vec![UNTOUCHED; input.len() + 3];
@@ -78,6 +88,7 @@ impl Part {
             bits,
             wp_high: self.wp_high,
             elapsed,
+            ticks_per_byte: self.ticks_per_byte,
         };
         let answer = frame(
             self.record,
@@ -413,6 +424,7 @@ mod refusals {
         register: usize,
         input: usize,
         bits: u64,
+        ticks_per_byte: u64,
         output: usize,
     }
 
@@ -430,6 +442,7 @@ mod refusals {
                 register: 128,
                 input: 2,
                 bits: 16,
+                ticks_per_byte: 1,
                 output: 2,
             }
         }
@@ -451,6 +464,7 @@ mod refusals {
                 bits: self.bits,
                 wp_high: true,
                 elapsed: 3,
+                ticks_per_byte: self.ticks_per_byte,
             };
             let answer = frame(self.record, &self.settings, &mut array, &mut register, &input, pins, &mut output);
             assert!(array.iter().chain(&register).all(|&byte| byte == 0x3C));
@@ -566,8 +580,23 @@ mod refusals {
     }
 
     #[test]
+    fn eight_position_too_long() {
+        let cases = [(0, 0), (1, 0), (999, 0), (1_000, 0), (1_001, 8), (1 << 63, 8), (u64::MAX, 8)];
+        expect(&cases, |call, ticks| call.ticks_per_byte = ticks);
+    }
+
+    #[test]
+    fn seven_wins_over_eight() {
+        let call = Call::altered(|call| {
+            call.settings.durations[7] = 60_000_001;
+            call.ticks_per_byte = 1_001;
+        });
+        assert_eq!(call.refusal(), 7);
+    }
+
+    #[test]
     fn lowest_number_wins() {
-        let faults: [fn(&mut Call); 7] = [
+        let faults: [fn(&mut Call); 8] = [
             |call| call.array = 7,
             |call| call.register = 7,
             |call| {
@@ -579,6 +608,7 @@ mod refusals {
             |call| call.output = call.input - 1,
             |call| call.record.busy = 60_000_001,
             |call| call.settings.durations[4] = 0,
+            |call| call.ticks_per_byte = 1_001,
         ];
         for chosen in 1u32..1 << faults.len() {
             let mut call = Call::right();
@@ -1109,6 +1139,379 @@ mod changes {
     }
 }
 
+mod time_in_a_frame {
+    use super::*;
+
+    /// The usual bench, busy for that long, at that pace.
+    fn busy(ticks: u64, ticks_per_byte: u64) -> Part {
+        Part::usual().with(|record| record.busy = ticks).at_pace(ticks_per_byte)
+    }
+
+    impl Part {
+        /// Polls with 05h after some ticks: the status bytes that follow it
+        /// must be the given ones, and that many busy ticks be left.
+        fn polls(mut self, elapsed: u64, expected: &[u8], left: u64) {
+            let before = self.clone();
+            let input = [&[0x05], vec![0x00; expected.len()].as_slice()].concat();
+            let (answer, output) = self.clock(&input, 8 * input.len() as u64, elapsed);
+            assert_eq!(answer.outcome, Outcome::Read);
+            assert_eq!((output[0], &output[1..]), (0xFF, expected));
+            assert_eq!((answer.first, answer.driven), (1, expected.len()));
+            self.changes_only(&before, |record| record.busy = left);
+        }
+
+        /// Sends a frame that must do nothing but let time pass, so that this
+        /// many busy ticks are left.
+        fn passes_time(mut self, input: &[u8], bits: u64, left: u64) {
+            let before = self.clone();
+            let (answer, output) = self.clock(input, bits, 0);
+            assert_eq!(answer.outcome, Outcome::Nothing, "{input:02X?} {bits}");
+            assert_eq!((answer.first, answer.driven), (0, 0));
+            assert!(output.iter().all(|&byte| byte == 0xFF));
+            self.changes_only(&before, |record| record.busy = left);
+        }
+
+        /// The part is the other one but for an adjustment of the record.
+        fn changes_only(&self, other: &Part, adjust: impl FnOnce(&mut Record)) {
+            assert_eq!(self.record, other.clone().with(adjust).record);
+            self.keeps_memories(other);
+        }
+    }
+
+    #[test]
+    fn busy_ends_while_a_status_byte_is_shown() {
+        // Positions 1, 2, 3, 4 begin 10, 20, 30, 40 ticks after the first bit.
+        // WP is high: byte 1 is 11h busy, 10h idle; byte 2 is 01h, then 00h.
+        // 5 ticks end in the opcode: no status byte shows busy.
+        busy(5, 10).polls(0, &[0x10, 0x00, 0x10, 0x00], 0);
+        // 15 end inside position 1, byte 1, which still shows busy: 15 > 10.
+        busy(15, 10).polls(0, &[0x11, 0x00, 0x10, 0x00], 0);
+        // 25 end inside position 2, byte 2, which still shows busy: 25 > 20.
+        busy(25, 10).polls(0, &[0x11, 0x01, 0x10, 0x00], 0);
+        // 35 end inside position 3, byte 1 again: 35 > 30.
+        busy(35, 10).polls(0, &[0x11, 0x01, 0x11, 0x00], 0);
+        // 45 end inside position 4, the last: 45 > 40, and 45 - 50 is below 0.
+        busy(45, 10).polls(0, &[0x11, 0x01, 0x11, 0x01], 0);
+        // 55 outlast the five positions: 55 - 50 = 5.
+        busy(55, 10).polls(0, &[0x11, 0x01, 0x11, 0x01], 5);
+    }
+
+    #[test]
+    fn busy_ends_at_the_first_bit_of_a_status_byte() {
+        // Position 1 begins after 10 ticks. With 9 or 10 none are left there;
+        // with 11 one is. Three positions take 30.
+        busy(9, 10).polls(0, &[0x10, 0x00], 0);
+        busy(10, 10).polls(0, &[0x10, 0x00], 0);
+        busy(11, 10).polls(0, &[0x11, 0x00], 0);
+        // Position 2 begins after 20.
+        busy(19, 10).polls(0, &[0x11, 0x00], 0);
+        busy(20, 10).polls(0, &[0x11, 0x00], 0);
+        busy(21, 10).polls(0, &[0x11, 0x01], 0);
+        // The rise is after 30: of 29 and 30 none are left there, of 31 one.
+        busy(29, 10).polls(0, &[0x11, 0x01], 0);
+        busy(30, 10).polls(0, &[0x11, 0x01], 0);
+        busy(31, 10).polls(0, &[0x11, 0x01], 1);
+        // At 1 tick a position, 2 ticks are over as position 2 begins.
+        busy(1, 1).polls(0, &[0x10, 0x00, 0x10], 0);
+        busy(2, 1).polls(0, &[0x11, 0x00, 0x10], 0);
+        busy(3, 1).polls(0, &[0x11, 0x01, 0x10], 0);
+    }
+
+    #[test]
+    fn elapsed_ticks_pass_before_the_first_bit() {
+        // 40 - 18 = 22 at the first bit: 22 > 10, 22 > 20, 22 - 30 is below 0.
+        busy(40, 10).polls(18, &[0x11, 0x01], 0);
+        // 40 - 20 = 20: 20 > 10, but 20 > 20 does not hold.
+        busy(40, 10).polls(20, &[0x11, 0x00], 0);
+        // 40 - 5 = 35, and 35 - 3 * 10 = 5.
+        busy(40, 10).polls(5, &[0x11, 0x01], 5);
+        // 40 - 40 = 0.
+        busy(40, 10).polls(40, &[0x10, 0x00], 0);
+    }
+
+    #[test]
+    fn at_pace_zero_the_status_stands_still() {
+        busy(1, 0).polls(0, &[0x11, 0x01, 0x11, 0x01], 1);
+        busy(7, 0).polls(6, &[0x11, 0x01, 0x11], 1);
+        busy(7, 0).polls(7, &[0x10, 0x00, 0x10], 0);
+    }
+
+    #[test]
+    fn only_busy_moves_in_the_status() {
+        // BPL 80h, WP 10h, BP0 04h, WEL 02h: byte 1 is 97h busy and 96h idle.
+        // RSTE 10h: byte 2 is 11h busy and 10h idle. 25 > 10, 25 > 20, not 25 > 30.
+        let marked = busy(25, 10).with(|record| {
+            record.bpl = true;
+            record.bp0 = true;
+            record.wel = true;
+            record.rste = true;
+        });
+        marked.polls(0, &[0x97, 0x11, 0x96, 0x10], 0);
+    }
+
+    #[test]
+    fn the_longest_poll_at_the_slowest_pace() {
+        // 8,192 positions of 1,000 ticks: the last begins after 8,191,000 and
+        // the rise is after 8,192,000. Position 8,191 is odd and shows byte 1.
+        let shown = |last| {
+            let mut bytes = [0x11, 0x01].repeat(4_095);
+            bytes.push(last);
+            bytes
+        };
+        busy(8_191_000, 1_000).polls(0, &shown(0x10), 0);
+        busy(8_191_001, 1_000).polls(0, &shown(0x11), 0);
+        // 60,000,000 - 8,192,000 = 51,808,000.
+        busy(60_000_000, 1_000).polls(0, &shown(0x11), 51_808_000);
+    }
+
+    #[test]
+    fn a_partial_last_byte_takes_its_ticks() {
+        // 100 less 10 for each 8 bits begun.
+        let one: &[u8] = &[0x05];
+        let two: &[u8] = &[0x05, 0];
+        let three: &[u8] = &[0x05, 0, 0];
+        let cases = [
+            (one, 8, 90),
+            (two, 9, 80),
+            (two, 15, 80),
+            (two, 16, 80),
+            (three, 17, 70),
+            (three, 23, 70),
+            (three, 24, 70),
+        ];
+        for (input, bits, left) in cases {
+            let (answer, _) = busy(100, 10).clock(input, bits, 0);
+            assert_eq!((answer.outcome, answer.record.busy), (Outcome::Read, left), "{bits}");
+        }
+        // 17 bits: of byte 2, 01h, only the leading 0 is clocked: 7Fh.
+        let (_, output) = busy(100, 10).clock(three, 17, 0);
+        assert_eq!(output, [0xFF, 0x11, 0x7F]);
+    }
+
+    #[test]
+    fn a_frame_of_no_bits_takes_no_time() {
+        busy(50, 1_000).passes_time(&[], 0, 50);
+        // Elapsed ticks do count: 50 - 7 = 43.
+        let (answer, _) = busy(50, 1_000).clock(&[], 0, 7);
+        assert_eq!((answer.outcome, answer.record.busy), (Outcome::Nothing, 43));
+    }
+
+    #[test]
+    fn fewer_than_eight_bits_take_one_position() {
+        for bits in 1..8 {
+            // 100 - 10 = 90, and 4 - 10 is below 0.
+            busy(100, 10).passes_time(&[0x05], bits, 90);
+            busy(4, 10).passes_time(&[0x05], bits, 0);
+        }
+    }
+
+    #[test]
+    fn a_frame_begun_busy_is_ignored_to_its_end() {
+        // 1 tick ends in the opcode; the frame was busy at its first bit.
+        let ending = Part::cleared().with(|record| {
+            record.busy = 1;
+            record.rste = true;
+        });
+        for opcode in (0..=0xFF).filter(|opcode| ![0x05, 0xF0].contains(opcode)) {
+            let part = ending.clone().at_pace(1_000);
+            part.clone().passes_time(&[opcode, 0xD0, 0, 0, 0, 0, 0], 56, 0);
+            part.clone().passes_time(&[opcode], 8, 0);
+        }
+        // The next frame finds the part idle, and the latch still set.
+        let mut part = ending.at_pace(1);
+        part.clock(&[0x60], 8, 0);
+        part.begins(&[0x60], 606, |_| ());
+    }
+
+    #[test]
+    fn an_ignored_frame_takes_its_ticks() {
+        let latched = busy(100, 10).with(|record| record.wel = true);
+        // A read of 6 positions: 100 - 60 = 40.
+        latched.clone().passes_time(&addressed(0x03, 0, &[0, 0]), 48, 40);
+        // A program of 5 positions, and one that lacks its last bit.
+        latched.clone().passes_time(&addressed(0x02, 0, &[0]), 40, 50);
+        latched.clone().passes_time(&addressed(0x02, 0, &[0]), 39, 50);
+        // A latch command and a sleep command, one position each.
+        latched.clone().passes_time(&[0x04], 8, 90);
+        latched.clone().passes_time(&[0xB9], 8, 90);
+        // A wake command, of two positions, to a part that is awake.
+        latched.clone().passes_time(&[0xAB, 0], 9, 80);
+    }
+
+    #[test]
+    fn an_unlisted_opcode_takes_its_ticks() {
+        // 3Bh is not built. 6 positions: 100 - 60 = 40; 2 positions: 80.
+        busy(100, 10).passes_time(&[0x3B, 0, 0, 0, 0, 0], 48, 40);
+        busy(100, 10).passes_time(&[0x00, 0], 11, 80);
+    }
+
+    #[test]
+    fn an_aborted_frame_leaves_the_part_idle() {
+        // An abort takes a part idle at the first bit: 0 less 5 * 10 stays 0.
+        Part::latched().at_pace(10).aborts(&[0x02, 0, 0, 0, 0], 39);
+        // 30 - 30 = 0 at the first bit: aborted. 30 - 29 = 1: ignored as busy,
+        // the latch stays, and 1 less 5 * 10 is below 0.
+        let ending = Part::latched().with(|record| record.busy = 30).at_pace(10);
+        let (answer, _) = ending.clone().clock(&[0x02, 0, 0, 0, 0], 39, 30);
+        assert_eq!((answer.outcome, answer.record.busy), (Outcome::Aborted, 0));
+        assert!(!answer.record.wel);
+        let (answer, _) = ending.clone().clock(&[0x02, 0, 0, 0, 0], 39, 29);
+        assert_eq!((answer.outcome, answer.record.busy), (Outcome::Nothing, 0));
+        assert!(answer.record.wel);
+    }
+
+    #[test]
+    fn an_operation_begins_with_its_full_duration() {
+        // Each starts at the rise, however long the frame took.
+        for pace in [1, 10, 1_000] {
+            let latched = Part::latched().at_pace(pace);
+            let begins = |input: &[u8], ticks| latched.clone().begins(input, ticks, |_| ());
+            begins(&addressed(0x02, 0, &[0x12]), 101);
+            begins(&addressed(0x02, 0, &[0x12, 0x34]), 202);
+            begins(&addressed(0x02, 0, &[0x12; 300]), 202);
+            begins(&addressed(0x81, 0, &[]), 303);
+            begins(&addressed(0x20, 0, &[]), 404);
+            begins(&addressed(0x52, 0, &[]), 505);
+            begins(&[0x60, 0, 0], 606);
+            begins(&[0x01, 0x00], 808);
+            latched
+                .clone()
+                .begins(&addressed(0x9B, 0, &[0]), 707, |record| record.otp_used = true);
+        }
+    }
+
+    #[test]
+    fn a_program_begins_if_idle_at_the_first_bit() {
+        let program = addressed(0x02, 0x1234, &[0x56]);
+        let ending = Part::latched().with(|record| record.busy = 30).at_pace(10);
+        // 30 - 30 = 0 at the first bit: 101 ticks from the rise on.
+        let mut part = ending.clone();
+        let (answer, _) = part.clock(&program, 40, 30);
+        assert_eq!((answer.outcome, answer.record.busy), (Outcome::Begun, 101));
+        part.differs_only(&Part::usual(), 0x1234, &[0x56]);
+        // 30 - 29 = 1 at the first bit: ignored, and over within the opcode.
+        let mut part = ending.clone();
+        let (answer, _) = part.clock(&program, 40, 29);
+        assert_eq!((answer.outcome, answer.record.busy), (Outcome::Nothing, 0));
+        part.keeps_memories(&ending);
+    }
+
+    #[test]
+    fn a_program_is_polled_to_its_end() {
+        let mut part = Part::latched().at_pace(10);
+        part.begins(&addressed(0x02, 0, &[0x12]), 101, |_| ());
+        // 101 > 10 * 10 and not 101 > 11 * 10: position 11, byte 1, is the
+        // first to show idle.
+        let shown = [[0x11, 0x01].repeat(5), vec![0x10, 0x00]].concat();
+        part.clone().polls(0, &shown, 0);
+        // Ten positions leave 1; in the next poll it is gone at position 1.
+        part.clone().polls(0, &shown[..9], 1);
+        part.clock(&[0x05, 0, 0, 0, 0, 0, 0, 0, 0, 0], 80, 0);
+        part.polls(0, &[0x10, 0x00], 0);
+    }
+
+    #[test]
+    fn reset_acts_at_the_rise() {
+        let enabled = |ticks| {
+            busy(ticks, 10).with(|record| {
+                record.rste = true;
+                record.wel = true;
+            })
+        };
+        let stops = |record: &mut Record| {
+            record.busy = 0;
+            record.wel = false;
+        };
+        // 100 outlast the two positions, 5 end in the first, 15 in the second,
+        // 20 at the rise.
+        for ticks in [100, 5, 15, 20] {
+            enabled(ticks).obeys(&[0xF0, 0xD0], stops);
+        }
+        // Not carried out, it takes its ticks: 100 less 10 a position.
+        enabled(100).passes_time(&[0xF0], 8, 90);
+        enabled(100).passes_time(&[0xF0, 0xD1], 16, 80);
+        enabled(100).passes_time(&[0xF0, 0xD0], 15, 80);
+        enabled(100).passes_time(&[0xF0, 0xD0, 0], 17, 70);
+        enabled(15).passes_time(&[0xF0, 0xD1], 16, 0);
+        busy(100, 10).passes_time(&[0xF0, 0xD0], 16, 80);
+        busy(5, 10).passes_time(&[0xF0, 0xD0], 16, 0);
+    }
+
+    #[test]
+    fn an_idle_part_does_not_feel_the_pace() {
+        let mut part = Part::patterned(LARGE).at_pace(1_000);
+        let expected = [0x1_FFFF, 0].map(pattern);
+        part.reads(&addressed(0x03, 0x01_FFFF, &[0; 2]), 4, &expected);
+        part.reads(&[0x05, 0, 0, 0], 1, &[0x12, 0x00, 0x12]);
+        part.reads(&[0x9F, 0, 0], 1, &[0x1F, 0x42]);
+        part.obeys(&[0x04], |record| record.wel = false);
+        part.obeys(&[0x06], |record| record.wel = true);
+        part.obeys(&[0x31, 0x10], |record| {
+            record.wel = false;
+            record.rste = true;
+        });
+        part.obeys(&[0xF0, 0xD0], |_| ());
+    }
+
+    #[test]
+    fn deep_sleep_has_nothing_to_run_down() {
+        let mut part = Part::latched().at_pace(1_000);
+        part.obeys(&[0xB9], |record| record.mode = Mode::Deep);
+        part.ignores(&[0x05, 0, 0], 24);
+        part.ignores(&[0x60], 8);
+        part.ignores(&[0xAB, 0], 9);
+        part.obeys(&[0xAB, 0], |record| record.mode = Mode::Awake);
+        part.begins(&[0x60], 606, |_| ());
+        // Sent to a busy part the command is ignored: 5 - 1,000 is below 0.
+        busy(5, 1_000).passes_time(&[0xB9], 8, 0);
+        busy(5, 1_000).passes_time(&[0x79], 8, 0);
+    }
+
+    #[test]
+    fn any_frame_wakes_from_ultra_deep_at_any_pace() {
+        let frames: [(&[u8], u64); 4] = [(&[], 0), (&[0x05], 3), (&[0x05, 0, 0], 24), (&[0xAB, 0], 9)];
+        for (input, bits) in frames {
+            let mut part = Part::latched().at_pace(1_000);
+            part.obeys(&[0x79], |record| record.mode = Mode::UltraDeep);
+            let (answer, output) = part.clock(input, bits, 5);
+            assert_eq!(answer.outcome, Outcome::Control);
+            assert_eq!((answer.first, answer.driven), (0, 0));
+            assert!(output.iter().all(|&byte| byte == 0xFF));
+            assert_eq!(answer.record, Record::fresh(false, false, false));
+        }
+    }
+
+    #[test]
+    fn a_refused_call_counts_neither_number() {
+        // 9 - 3 = 6 at the first bit, 6 - 2 * 2 = 2 at the rise if accepted.
+        let call = |ticks_per_byte| {
+            let record = busy(9, 0).record;
+            let pins = Pins {
+                bits: 16,
+                wp_high: true,
+                elapsed: 3,
+                ticks_per_byte,
+            };
+            let (mut array, mut register) = (vec![0xFF; SMALL], [0xFF; 128]);
+            let mut output = [UNTOUCHED; 2];
+            let answer = frame(record, &DISTINCT, &mut array, &mut register, &[0x05, 0], pins, &mut output);
+            (answer.refusal, answer.outcome, answer.record.busy, output)
+        };
+        assert_eq!(call(2), (0, Outcome::Read, 2, [0xFF, 0x11]));
+        assert_eq!(call(1_000), (0, Outcome::Read, 0, [0xFF, 0x10]));
+        assert_eq!(call(1_001), (8, Outcome::Nothing, 9, [UNTOUCHED; 2]));
+    }
+
+    #[test]
+    fn the_longest_rest_and_the_slowest_pace_do_not_add_up() {
+        // 2^64 - 1 ticks end any operation before the first bit.
+        busy(60_000_000, 1_000).polls(u64::MAX, &[0x10, 0x00], 0);
+        let mut part = Part::latched().with(|record| record.busy = 60_000_000).at_pace(1_000);
+        let (answer, _) = part.clock(&[0x60], 8, u64::MAX);
+        assert_eq!((answer.outcome, answer.record.busy), (Outcome::Begun, 606));
+    }
+}
+
 mod looks {
     use super::*;
 
@@ -1170,7 +1573,7 @@ mod extremes {
         let (mut array, mut register) = (vec![0; array], vec![0; register]);
         let mut output = vec![0; length];
         let input = vec![0x60; length];
-        for place in 0..4 {
+        for place in 0..5 {
             let pick = |wanted, usual| if place == wanted { number } else { usual };
             let mut record = Record::fresh(false, false, false);
             record.wel = true;
@@ -1182,9 +1585,10 @@ mod extremes {
                 bits: pick(2, 8 * length as u64),
                 wp_high: false,
                 elapsed: pick(3, 1),
+                ticks_per_byte: pick(4, 1),
             };
             let answer = frame(record, &settings, &mut array, &mut register, &input, pins, &mut output);
-            assert!(answer.refusal <= 7);
+            assert!(answer.refusal <= 8);
         }
     }
 }

@@ -11,23 +11,66 @@ pub struct Signals {
     pub bits: u64,
     /// The level of WP during the whole frame.
     pub wp_high: bool,
-    /// Ticks elapsed since the previous call.
+    /// Ticks elapsed since the previous call, up to the frame's first bit.
     pub elapsed: u64,
+    /// Ticks that each byte position takes, a partial last one too; at most [`Signals::MOST_TICKS_PER_BYTE`].
+    pub ticks_per_byte: u64,
 }
 
 impl Signals {
-    /// All bits of these bytes, WP high, no time elapsed.
+    /// A byte position takes no more ticks.
+    pub const MOST_TICKS_PER_BYTE: u64 = 1_000;
+
+    /// All bits of these bytes, WP high, no time elapsed, and none taken by the frame.
     #[must_use]
     pub fn whole(input: &[u8]) -> Signals {
         Signals {
             bits: 8 * input.len() as u64,
             wp_high: true,
             elapsed: 0,
+            ticks_per_byte: 0,
         }
+    }
+
+    /// These signals with each byte position taking so many ticks. Position k, counted from 0, begins k times as many after the frame's
+    /// first bit, and a status byte shows busy as at the first bit of its position. So a poll with chip select held low sees busy fall:
+    ///
+    /// ```
+    /// use oxterin::{Part, Signals, Size};
+    ///
+    /// let mut part = Part::blank(Size::Whole);
+    /// part.send(&[0x06])?;
+    /// part.send(&[0x20, 0x00, 0x10, 0x00])?; // a 4-KiB erase: 50,000 ticks
+    ///
+    /// let mut poll = [0x00; 6_300];
+    /// poll[0] = 0x05;
+    /// let status = part.frame(&poll, Signals::whole(&poll).with_ticks_per_byte(8))?.output;
+    /// let idle = |byte: &u8| byte & 0x01 == 0;
+    /// assert_eq!(status.iter().position(idle), Some(6_250)); // 50,000 / 8
+    /// assert_eq!(status[6_248..6_252], [0x01, 0x11, 0x00, 0x10]);
+    /// assert_eq!(part.record.busy, 0);
+    /// # Ok::<(), oxterin::Refusal>(())
+    /// ```
+    #[must_use]
+    pub fn with_ticks_per_byte(self, ticks_per_byte: u64) -> Signals {
+        Signals { ticks_per_byte, ..self }
+    }
+
+    /// Ticks from the frame's first bit to the rise of chip select; the largest number if there are more, which no accepted frame has.
+    ///
+    /// ```
+    /// use oxterin::Signals;
+    ///
+    /// let cut = Signals { bits: 11, ..Signals::whole(&[0x05, 0x00]) };
+    /// assert_eq!(cut.with_ticks_per_byte(8).frame_ticks(), 16); // the partial byte is a position
+    /// ```
+    #[must_use]
+    pub fn frame_ticks(&self) -> u64 {
+        self.bits.div_ceil(8).saturating_mul(self.ticks_per_byte)
     }
 }
 
-/// Why a call was refused. Then nothing has changed, and its elapsed ticks do not count.
+/// Why a call was refused. Then nothing has changed, and neither its elapsed nor its frame's ticks count.
 #[derive(Clone, Copy, Debug, PartialEq, Eq, Hash)]
 #[repr(u8)]
 pub enum Refusal {
@@ -45,11 +88,13 @@ pub enum Refusal {
     Record = 6,
     /// 7: a duration is 0 or over 60,000,000.
     Duration = 7,
+    /// 8: more than 1,000 ticks per byte position.
+    TicksPerByte = 8,
 }
 
 impl Refusal {
     /// All refusals, in the order of their numbers.
-    pub const ALL: [Refusal; 7] = [
+    pub const ALL: [Refusal; 8] = [
         Refusal::ArrayLength,
         Refusal::RegisterLength,
         Refusal::InputLength,
@@ -57,6 +102,7 @@ impl Refusal {
         Refusal::OutputLength,
         Refusal::Record,
         Refusal::Duration,
+        Refusal::TicksPerByte,
     ];
 
     /// Its number in document 01.
@@ -82,6 +128,7 @@ impl fmt::Display for Refusal {
             Refusal::OutputLength => "the output buffer is shorter than the input",
             Refusal::Record => "the record has more than 60,000,000 busy ticks left, or any while asleep",
             Refusal::Duration => "a duration is 0 or over 60,000,000 ticks",
+            Refusal::TicksPerByte => "more than 1,000 ticks per byte position",
         };
         write!(f, "refusal {}: {why}", self.number())
     }
@@ -173,7 +220,7 @@ pub fn frame(
     let number = raw::frame(
         &mut words,
         &settings.words(),
-        &[signals.bits, signals.wp_high.into(), signals.elapsed],
+        &[signals.bits, signals.wp_high.into(), signals.elapsed, signals.ticks_per_byte],
         array,
         register,
         input,
@@ -220,4 +267,149 @@ pub fn look<'a>(array: &'a [u8], register: &'a [u8], memory: Memory, address: u6
     debug_assert_eq!(told, 0);
     let start = place[0] as usize;
     &chosen[start..start + place[1] as usize]
+}
+
+#[cfg(test)]
+mod tests {
+    use super::*;
+    use crate::{Part, Size};
+
+    /// A part with so many busy ticks left.
+    fn busy(ticks: u64) -> Part {
+        let mut part = Part::blank(Size::Small);
+        part.record.busy = ticks;
+        part
+    }
+
+    /// A part's output and the busy ticks left after a frame of whole bytes.
+    fn seen(mut part: Part, input: &[u8], ticks_per_byte: u64) -> (Vec<u8>, u64) {
+        let signals = Signals::whole(input).with_ticks_per_byte(ticks_per_byte);
+        let output = part.frame(input, signals).expect("it is accepted").output;
+        (output, part.record.busy)
+    }
+
+    #[test]
+    fn a_status_byte_shows_busy_as_at_its_first_bit() {
+        let poll = [0x05, 0, 0, 0, 0];
+        assert_eq!(seen(busy(20), &poll, 8), (vec![0xFF, 0x11, 0x01, 0x10, 0x00], 0));
+        assert_eq!(seen(busy(17), &poll, 8), (vec![0xFF, 0x11, 0x01, 0x10, 0x00], 0));
+        assert_eq!(seen(busy(16), &poll, 8), (vec![0xFF, 0x11, 0x00, 0x10, 0x00], 0));
+        assert_eq!(seen(busy(41), &poll, 8), (vec![0xFF, 0x11, 0x01, 0x11, 0x01], 1));
+        assert_eq!(seen(busy(20), &poll, 0), (vec![0xFF, 0x11, 0x01, 0x11, 0x01], 20));
+    }
+
+    #[test]
+    fn a_frame_is_heard_or_not_by_its_first_bit() {
+        let read = [0x03, 0, 0, 0, 0];
+        let mut part = busy(1);
+        let signals = Signals::whole(&read).with_ticks_per_byte(1_000);
+        let ignored = part.frame(&read, signals).expect("it is accepted");
+        assert_eq!((ignored.answer.outcome, ignored.answer.driven), (Outcome::Nothing, 0));
+        assert_eq!(part.record.busy, 0);
+        let heard = part.frame(&read, signals).expect("it is accepted");
+        assert_eq!((heard.answer.outcome, heard.answer.driven), (Outcome::Read, 1));
+    }
+
+    #[test]
+    fn an_operation_starts_at_the_rise_with_its_full_duration() {
+        let mut part = Part::blank(Size::Small);
+        part.send(&[0x06]).expect("it is accepted");
+        let program = [0x02, 0x00, 0x00, 0x00, 0x5A];
+        let begun = part
+            .frame(&program, Signals::whole(&program).with_ticks_per_byte(1_000))
+            .expect("it is accepted");
+        assert_eq!(begun.answer.outcome, Outcome::Begun);
+        assert_eq!(part.record.busy, part.settings.byte_program);
+    }
+
+    #[test]
+    fn elapsed_ticks_pass_before_those_of_the_frame_and_no_sum_overflows() {
+        let poll = [0x05, 0x00];
+        let signals = Signals {
+            elapsed: 30,
+            ..Signals::whole(&poll).with_ticks_per_byte(1_000)
+        };
+        let mut part = busy(3_000);
+        assert_eq!(part.frame(&poll, signals).expect("it is accepted").output, [0xFF, 0x11]);
+        assert_eq!(part.record.busy, 970);
+        let long = Signals {
+            elapsed: u64::MAX,
+            ..signals
+        };
+        assert_eq!(part.frame(&poll, long).expect("it is accepted").output, [0xFF, 0x10]);
+        assert_eq!(part.record.busy, 0);
+    }
+
+    #[test]
+    fn a_byte_position_takes_at_most_1000_ticks() {
+        let poll = [0x05, 0x00];
+        let mut part = busy(60_000_000);
+        let before = part.clone();
+        for ticks in [1_001, u64::MAX] {
+            let signals = Signals {
+                elapsed: 9,
+                ..Signals::whole(&poll).with_ticks_per_byte(ticks)
+            };
+            assert_eq!(part.frame(&poll, signals), Err(Refusal::TicksPerByte));
+            assert_eq!(part, before);
+        }
+        let most = Signals::whole(&poll).with_ticks_per_byte(Signals::MOST_TICKS_PER_BYTE);
+        assert!(part.frame(&poll, most).is_ok());
+        assert_eq!(part.record.busy, 60_000_000 - 2_000);
+        part.settings.status_write = 0;
+        assert_eq!(part.frame(&poll, most.with_ticks_per_byte(1_001)), Err(Refusal::Duration));
+    }
+
+    /// The number that a poll is answered with when it is handed the first words of these signals, with the record's words, the output and
+    /// the answer afterwards. 20 busy ticks are left, of which 4 elapse.
+    fn polled(words: usize) -> (u64, [u64; raw::RECORD], [u8; 3], [u64; raw::ANSWER]) {
+        let mut record = busy(20).record.words();
+        let (mut output, mut answer) = ([0xEE; 3], [77; raw::ANSWER]);
+        let number = raw::frame(
+            &mut record,
+            &Settings::typical().words(),
+            &[24, 1, 4, 8, 0][..words],
+            &mut [0xFF; 65_536],
+            &mut [0xFF; 128],
+            &[0x05, 0, 0],
+            &mut output,
+            &mut answer,
+        );
+        (number, record, output, answer)
+    }
+
+    #[test]
+    fn signals_have_four_words_or_the_three_of_1_1_0() {
+        let left = |ticks| busy(ticks).record.words();
+        assert_eq!(polled(4), (0, left(0), [0xFF, 0x11, 0x00], [1, 1, 2]));
+        assert_eq!(polled(3), (0, left(16), [0xFF, 0x11, 0x01], [1, 1, 2]));
+        for words in [0, 1, 2, 5] {
+            assert_eq!(polled(words), (raw::UNREAD, left(20), [0xEE; 3], [77; 3]), "{words} words");
+        }
+    }
+
+    #[test]
+    fn refusals_are_numbered_from_1_to_8() {
+        assert_eq!(Refusal::ALL.map(Refusal::number), [1, 2, 3, 4, 5, 6, 7, 8]);
+        assert_eq!(Refusal::of_number(0), None);
+        for refusal in Refusal::ALL {
+            assert_eq!(Refusal::of_number(refusal.number().into()), Some(refusal));
+        }
+        assert_eq!(
+            Refusal::TicksPerByte.to_string(),
+            "refusal 8: more than 1,000 ticks per byte position"
+        );
+    }
+
+    #[test]
+    fn a_frame_takes_its_byte_positions_ticks() {
+        let whole = Signals::whole(&[]);
+        let ticks = |bits| Signals { bits, ..whole }.with_ticks_per_byte(1_000).frame_ticks();
+        assert_eq!([0, 1, 8, 9, 65_536].map(ticks), [0, 1_000, 1_000, 2_000, 8_192_000]);
+        assert_eq!(ticks(u64::MAX), u64::MAX);
+        let mut part = busy(20);
+        let cut = Signals { bits: 9, ..whole }.with_ticks_per_byte(8);
+        part.frame(&[0x05, 0x00], cut).expect("it is accepted");
+        assert_eq!(part.record.busy, 4);
+    }
 }

@@ -2,7 +2,8 @@
 //!
 //! [`Part`] owns its memories; [`frame`] works on memories that you lend; [`hex_text`] and [`hex_read`] turn an array into Intel HEX text
 //! and back; [`raw`] is the face that C programs see, words and bytes.
-//! Time passes only as the caller says, in ticks that come with each frame.
+//! Time passes only as the caller says, in ticks that come with each frame: those elapsed before it, and those that each of its byte
+//! positions takes ([`Signals::with_ticks_per_byte`]).
 //!
 //! ```
 //! use oxterin::{Outcome, Part, Signals, Size};
@@ -34,7 +35,7 @@ pub use record::{Mode, Record, Settings};
 /// How the proved library in this program was built: for which machine, and by which way.
 pub const BUILT: &str = env!("OXTERIN_BUILT");
 
-/// The version of the proved face, such as `1.1.0`.
+/// The version of the proved face, such as `1.2.0`.
 #[must_use]
 pub fn version() -> String {
     let number = raw::version();

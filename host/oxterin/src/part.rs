@@ -108,7 +108,7 @@ impl Part {
         }
     }
 
-    /// A frame of whole bytes with WP high, no time having elapsed.
+    /// A frame of whole bytes with WP high, no time having elapsed, that takes none itself.
     ///
     /// # Errors
     ///

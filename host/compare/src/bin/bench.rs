@@ -9,6 +9,10 @@ struct Case {
     name: &'static str,
     /// Its bytes.
     input: Vec<u8>,
+    /// The busy ticks left at its first bit.
+    busy: u64,
+    /// The ticks that each of its positions takes.
+    ticks_per_byte: u64,
     /// What it has to come to.
     outcome: &'static str,
     /// What it is compared with, beside the model.
@@ -48,8 +52,15 @@ fn cases() -> Vec<Case> {
     let case = |name, input, outcome, plain| Case {
         name,
         input,
+        busy: 0,
+        ticks_per_byte: 0,
         outcome,
         plain,
+    };
+    let poll = |name, busy, ticks_per_byte| Case {
+        busy,
+        ticks_per_byte,
+        ..case(name, [&[0x05][..], &[0; 8_191]].concat(), "read", Plain::None)
     };
     vec![
         case("status read, 1 byte", vec![0x05, 0], "read", Plain::None),
@@ -59,6 +70,8 @@ fn cases() -> Vec<Case> {
         case("4-KiB erase", vec![0x20, 0x00, 0x40, 0x00], "begun", Plain::Fill(4_096)),
         case("chip erase, 131,072 bytes", vec![0xC7], "begun", Plain::Fill(131_072)),
         case("read, 8,188 bytes", read, "read", Plain::Copy(8_188)),
+        poll("status read of 8,192 positions, busy, ticks per byte 0", 32_768, 0),
+        poll("status read of 8,192 positions, busy for half of them, ticks per byte 8", 32_768, 8),
     ]
 }
 
@@ -79,10 +92,14 @@ fn proved(case: &Case) -> Box<dyn FnMut(u64)> {
     let (mut array, mut register, mut output) = memories(input.len());
     let ready = oxterin::Record {
         wel: true,
+        busy: case.busy,
         ..oxterin::Record::fresh(false, false, false)
     };
     let settings = oxterin::Settings::typical();
-    let signals = oxterin::Signals::whole(&input);
+    let signals = oxterin::Signals {
+        ticks_per_byte: case.ticks_per_byte,
+        ..oxterin::Signals::whole(&input)
+    };
     let mut frame = move || {
         let mut record = black_box(ready);
         let answer = oxterin::frame(
@@ -111,6 +128,7 @@ fn modelled(case: &Case) -> Box<dyn FnMut(u64)> {
     let (mut array, mut register, mut output) = memories(input.len());
     let ready = model::Record {
         wel: true,
+        busy: case.busy,
         ..model::Record::fresh(false, false, false)
     };
     let settings = model::Settings::typical();
@@ -118,6 +136,7 @@ fn modelled(case: &Case) -> Box<dyn FnMut(u64)> {
         bits: 8 * input.len() as u64,
         wp_high: true,
         elapsed: 0,
+        ticks_per_byte: case.ticks_per_byte,
     };
     let mut frame = move || {
         let answer = model::frame(
@@ -174,8 +193,9 @@ fn print_conditions() {
     println!("Proved library: {}", oxterin::BUILT);
     println!("Array of 131,072 bytes. Best of {ROUNDS} rounds of about {ROUND:?} each, the contenders in turn.");
     println!("Buffers were warmed up and are not cleared between frames.");
-    println!("Each frame is handed a record with WEL set and no busy ticks by value, so that every program and erase begins; no other");
-    println!("frame is in its time. The proved part is called through the safe wrapper.");
+    println!("Each frame is handed a record with WEL set and no busy ticks by value, so that every program and erase begins; the status");
+    println!("reads of 8,192 positions are handed 32,768 busy ticks. No other frame is in its time. The proved part is called through the");
+    println!("safe wrapper.");
     println!();
 }
 

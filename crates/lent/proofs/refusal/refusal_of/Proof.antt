@@ -13,10 +13,10 @@ use Rattle.lent.proofs.refusal.refusal_of.Tie as tie
 
 -- the number, and what is left of its definition from 6 on and from 3 on
 abbrev number : tie.Start → ℕ
-number a = refusalOf (a .args .device) (a .args .settings) (a .args .bits) (a .args .lengths)
+number a = refusalOf (a .args .device) (a .args .settings) (a .args .bits) (a .args .pace) (a .args .lengths)
 
 abbrev from-six : tie.Start → ℕ
-from-six a = cond (unsound (a .args .device)) 6 (cond (anyUnfair (a .args .settings .ticks)) 7 0)
+from-six a = cond (unsound (a .args .device)) 6 (cond (anyUnfair (a .args .settings .ticks)) 7 (cond (ltb 1000 (a .args .pace)) 8 0))
 
 abbrev from-three : tie.Start → ℕ
 from-three a =
@@ -60,8 +60,15 @@ returns-6 c = rw (to-six (c .before .before), sym (c .before .is-unsound .ensure
 returns-7 : tie.Need-returns-7
 returns-7 c = rw (to-six (c .before .before .before .before), sym (c .before .before .before .is-unsound .ensures) ∙ c .before .before .if6 .left, sym (c .before .is-unfair .ensures) ∙ c .if7 .taken)
 
+-- the durations are fair too
+to-eight : (c : tie.Else7) → let a = c .before .before .before .before .before .before .before .before .before .before .before .before .before .before in number a ≡ cond (ltb 1000 (a .args .pace)) 8 0
+to-eight c = rw (to-six (c .before .before .before .before), sym (c .before .before .before .is-unsound .ensures) ∙ c .before .before .if6 .left, sym (c .before .is-unfair .ensures) ∙ c .if7 .left)
+
 returns-8 : tie.Need-returns-8
-returns-8 c = rw (to-six (c .before .before .before .before), sym (c .before .before .before .is-unsound .ensures) ∙ c .before .before .if6 .left, sym (c .before .is-unfair .ensures) ∙ c .if7 .left)
+returns-8 c = rw (to-eight (c .before), lt-ltb _ _ (c .if8 .taken))
+
+returns-9 : tie.Need-returns-9
+returns-9 c = rw (to-eight (c .before), le-ltb _ _ (c .if8 .left))
 
 pub refusal-of-spec : {M : Type 1} → statement M
 refusal-of-spec =
@@ -79,4 +86,5 @@ refusal-of-spec =
     returns-6
     (λ c κs. search needs)
     returns-7
-    returns-8)
+    returns-8
+    returns-9)

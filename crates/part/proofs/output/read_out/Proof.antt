@@ -2,6 +2,7 @@
 use borrow.Author.Needs.{needs}
 use lib.ListN.{length}
 use Rattle.part.specs.Output.{store}
+use Rattle.part.specs.Time.{standing}
 use Rattle.part.proofs.Lines.{pieces}
 use Rattle.part.proofs.output.read_out.Statement.{statement}
 use Rattle.part.proofs.output.read_out.Tie as tie
@@ -11,7 +12,7 @@ returns c =
     let start = c .before .before .before .before .before .before .before .before .before .before .before .before .before .before .before .before in
     let a = start .args in
     rw (c .before .before .fill2 .ensures, c .before .before .before .before .before .before .send .ensures, c .before .before .before .before .before .before .before .before .before .before .fill .ensures)
-    (pieces (a .source) (a .device) (a .wp) (store (a .array .now)) (store (a .register .now)) (a .input .now) (a .first) (a .end) (length (a .input .now))
+    (pieces (a .source) (standing (a .device) (a .pace)) (a .wp) (store (a .array .now)) (store (a .register .now)) (a .input .now) (a .first) (a .end) (length (a .input .now))
     (a .output .now) (start .pre .1 .0) (start .pre .1 .1))
 
 pub read-out-spec : {M : Type 1} → statement M

@@ -1,5 +1,5 @@
--- `part::output::send` meets its contract: each source is a memory that is copied out, from an address or from its first byte.
--- Assumes nothing.
+-- `part::output::send` meets its contract: each source but the status is a memory that is copied out, from an address or from its first
+-- byte. Assumes nothing.
 use native.Mathlib.Nat.{mod-lt}
 use borrow.Author.Needs.{needs}
 use Rattle.part.specs.Operations.{addressOf}
@@ -26,13 +26,13 @@ returns-2 c =
     (from-address (a .register .now) (addressOf (a .input .now)) (a .first) (a .end) (a .output .now))
 
 returns-3 : tie.Need-returns-3
-returns-3 c = rw (c .before .before .before .before .before .before .before .enum-told3 .given .1, c .before .before .copy-out3 .ensures, c .before .before .before .before .before .status-two .ensures, c .before .before .before .before .before .before .status-one .ensures)
+returns-3 c = rw (c .before .before .before .before .enum-told3 .given .1) (c .before .before .send-status .ensures)
 
 returns-4 : tie.Need-returns-4
-returns-4 c = rw (c .before .before .before .before .before .enum-told4 .given .1, c .before .before .copy-out4 .ensures)
+returns-4 c = rw (c .before .before .before .before .before .enum-told4 .given .1, c .before .before .copy-out3 .ensures)
 
 returns-5 : tie.Need-returns-5
-returns-5 c = rw (c .before .before .before .before .before .enum-told5 .given .1, c .before .before .copy-out5 .ensures)
+returns-5 c = rw (c .before .before .before .before .before .enum-told5 .given .1, c .before .before .copy-out4 .ensures)
 
 pub send-spec : {M : Type 1} → statement M
 send-spec =
@@ -46,9 +46,6 @@ send-spec =
     (λ c κs. search needs)
     (λ c. search needs)
     copy-out-requires-2
-    (λ c. search needs)
-    (λ c κs. search needs)
-    (λ c κs. search needs)
     (λ c. search needs)
     (λ c κs. search needs)
     (λ c. search needs)

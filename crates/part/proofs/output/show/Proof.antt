@@ -2,6 +2,7 @@
 use borrow.Author.Needs.{needs}
 use lib.ListN.{length}
 use Rattle.part.specs.Output.{store, lineAt, readAt}
+use Rattle.part.specs.Time.{standing}
 use Rattle.part.proofs.Lines.{line-clipped}
 use Rattle.part.proofs.output.show.Statement.{statement}
 use Rattle.part.proofs.output.show.Tie as tie
@@ -11,7 +12,7 @@ unfolding readAt
 returns c =
     let a = c .before .before .before .before .before .before .before .before .before .before .before .before .args in
     rw (c .before .before .clip .ensures, c .before .before .before .before .before .before .drive .ensures)
-    (line-clipped (lineAt (a .judged .action) (a .judged) (a .device) (a .wp) (store (a .array .now)) (store (a .register .now)) (a .input .now)) (a .bits)
+    (line-clipped (lineAt (a .judged .action) (a .judged) (standing (a .device) (a .pace)) (a .wp) (store (a .array .now)) (store (a .register .now)) (a .input .now)) (a .bits)
     (length (a .input .now)) (a .output .now))
 
 pub show-spec : {M : Type 1} → statement M

@@ -40,14 +40,14 @@ unfolding judged
 returns-4 c =
     let past = c .before .before .before .before in
     rw
-    (not-ultra-deep (past .before .before .before .before .before), enough-bits (past .before .before .before), not-deep (past .before), rw (c .before .before .before .is-busy .ensures, past .row-of .ensures) at (c .before .if4 .taken), c .quiet3 .ensures)
+    (not-ultra-deep (past .before .before .before .before .before), enough-bits (past .before .before .before), not-deep (past .before), rw (past .row-of .ensures) at (c .before .if4 .taken), c .quiet3 .ensures)
 
 returns-5 : tie.Need-returns-5
 unfolding judged
 returns-5 c =
     let past = c .before .before .before .before in
     rw
-    (not-ultra-deep (past .before .before .before .before .before), enough-bits (past .before .before .before), not-deep (past .before), rw (c .before .before .before .is-busy .ensures, past .row-of .ensures) at (c .before .if4 .left), c .by-opcode .ensures, past .row-of .ensures)
+    (not-ultra-deep (past .before .before .before .before .before), enough-bits (past .before .before .before), not-deep (past .before), rw (past .row-of .ensures) at (c .before .if4 .left), c .by-opcode .ensures, past .row-of .ensures)
 
 pub judge-spec : {M : Type 1} → statement M
 judge-spec =
@@ -62,7 +62,6 @@ judge-spec =
     (λ c κs. search needs)
     (λ c κs. search needs)
     returns-3
-    (λ c κs. search needs)
     (λ c κs. search needs)
     (λ c κs. search needs)
     returns-4

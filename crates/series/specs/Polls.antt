@@ -1,0 +1,113 @@
+-- Frames that take time, worked by hand: at 8 ticks a position, position 1 begins 8 ticks after the frame's first bit, position 2 begins 16,
+-- position 3 begins 24 ticks after it. Assumes nothing.
+use mathlib.Core.Bool.{true, false}
+use mathlib.Core.List.{List, [], _∷_}
+use Rattle.sheet.specs.declared.device.Mode.the-variants.{Awake}
+use Rattle.series.specs.Worked.{Sent, Row}
+use Rattle.series.specs.Words.{idle, enabled, busy, clocked, whole, low, paced, came, quiet, refused, _⇒_, piece, row}
+
+-- a status read of five status bytes, at 8 ticks a position: 48 ticks in all
+abbrev poll : Sent
+poll = paced 8 (whole (0x05 ∷ 0x00 ∷ 0x00 ∷ 0x00 ∷ 0x00 ∷ 0x00 ∷ []) 0)
+
+-- 20 ticks left: positions 1 and 2 show busy, and status byte 1 at position 3 is the first that does not
+abbrev falls-in-byte-one : Row
+falls-in-byte-one = row (busy 20) 0xFF ((poll ⇒ came "read" 1 5 idle (0xFF ∷ 0x11 ∷ 0x01 ∷ 0x10 ∷ 0x00 ∷ 0x10 ∷ [])) ∷ []) []
+
+-- 12 ticks left: status byte 2 at position 2 is the first that does not
+abbrev falls-in-byte-two : Row
+falls-in-byte-two = row (busy 12) 0xFF ((poll ⇒ came "read" 1 5 idle (0xFF ∷ 0x11 ∷ 0x00 ∷ 0x10 ∷ 0x00 ∷ 0x10 ∷ [])) ∷ []) []
+
+-- 16 ticks left: none is at the very first bit of position 2; with one more tick one is
+abbrev falls-at-the-first-bit : Row
+falls-at-the-first-bit = row (busy 16) 0xFF ((poll ⇒ came "read" 1 5 idle (0xFF ∷ 0x11 ∷ 0x00 ∷ 0x10 ∷ 0x00 ∷ 0x10 ∷ [])) ∷ []) []
+
+abbrev one-tick-more : Row
+one-tick-more = row (busy 17) 0xFF ((poll ⇒ came "read" 1 5 idle (0xFF ∷ 0x11 ∷ 0x01 ∷ 0x10 ∷ 0x00 ∷ 0x10 ∷ [])) ∷ []) []
+
+-- busy does not fall in the frame: 100 less 48, and then less 4 and 48; at 0 ticks a position nothing passes
+abbrev does-not-fall : Row
+does-not-fall =
+    row (busy 100) 0xFF
+    ((poll ⇒ came "read" 1 5 (busy 52) (0xFF ∷ 0x11 ∷ 0x01 ∷ 0x11 ∷ 0x01 ∷ 0x11 ∷ [])) ∷
+    (whole (0x05 ∷ 0x00 ∷ 0x00 ∷ []) 0 ⇒ came "read" 1 2 (busy 52) (0xFF ∷ 0x11 ∷ 0x01 ∷ [])) ∷
+    (paced 8 (whole (0x05 ∷ 0x00 ∷ 0x00 ∷ 0x00 ∷ 0x00 ∷ 0x00 ∷ []) 4) ⇒ came "read" 1 5 idle (0xFF ∷ 0x11 ∷ 0x01 ∷ 0x11 ∷ 0x01 ∷ 0x11 ∷ [])) ∷
+    [])
+    []
+
+-- nothing else moves: BPL, BP0 and RSTE are shown as they stand, and WP low
+abbrev others-stand : Row
+others-stand =
+    row (record { bpl = true; bp0 = true; wel = false; rste = true; used = false; mode = Awake; busy = 12 }) 0xFF
+    ((paced 8 (low (0x05 ∷ 0x00 ∷ 0x00 ∷ 0x00 ∷ []) 0) ⇒
+    came "read" 1 3 (record { bpl = true; bp0 = true; wel = false; rste = true; used = false; mode = Awake; busy = 0 }) (0xFF ∷ 0x85 ∷ 0x10 ∷ 0x84 ∷ [])) ∷
+    [])
+    []
+
+-- a partial last byte counts as a position, a single bit too; a frame of no bits takes no ticks
+abbrev positions : Row
+positions =
+    row (busy 100) 0xFF
+    ((paced 8 (clocked 11 (0x05 ∷ 0x00 ∷ []) 0) ⇒ came "read" 1 1 (busy 84) (0xFF ∷ 0x1F ∷ [])) ∷
+    (paced 8 (clocked 1 (0x05 ∷ []) 0) ⇒ quiet "nothing" (busy 76) 1) ∷
+    (paced 1000 (whole [] 0) ⇒ quiet "nothing" (busy 76) 0) ∷
+    [])
+    []
+
+-- busy at its first bit a frame is ignored, also if busy ends inside it; if busy ends with the ticks elapsed before, it is heard
+abbrev ignored : Row
+ignored =
+    row (busy 10) 0x00
+    ((paced 8 (whole (0x03 ∷ 0x00 ∷ 0x00 ∷ 0x00 ∷ 0x00 ∷ []) 9) ⇒ quiet "nothing" idle 5) ∷
+    (paced 8 (whole (0x03 ∷ 0x00 ∷ 0x00 ∷ 0x00 ∷ 0x00 ∷ []) 0) ⇒ came "read" 4 1 idle (0xFF ∷ 0xFF ∷ 0xFF ∷ 0xFF ∷ 0x00 ∷ [])) ∷
+    [])
+    []
+
+abbrev heard : Row
+heard = row (busy 10) 0xFF ((paced 8 (whole (0x06 ∷ []) 10) ⇒ quiet "control" enabled 1) ∷ []) []
+
+-- the frame's own ticks come off before its operation starts, which takes its full duration
+abbrev begins-at-the-rise : Row
+begins-at-the-rise =
+    row enabled 0xFF
+    ((paced 1000 (whole (0x02 ∷ 0x00 ∷ 0x00 ∷ 0x00 ∷ 0x5A ∷ []) 0) ⇒ quiet "begun" (busy 12) 5) ∷
+    (paced 2 (whole (0x05 ∷ 0x00 ∷ 0x00 ∷ []) 3) ⇒ came "read" 1 2 (busy 3) (0xFF ∷ 0x11 ∷ 0x01 ∷ [])) ∷
+    [])
+    (piece 0 1 0x5A ∷ [])
+
+-- a reset acts at the rise; one that is not confirmed takes its ticks and no more
+abbrev resets : Row
+resets =
+    row (record { bpl = false; bp0 = false; wel = false; rste = true; used = false; mode = Awake; busy = 100 }) 0xFF
+    ((paced 8 (whole (0xF0 ∷ 0xD1 ∷ []) 0) ⇒ quiet "nothing" (record { bpl = false; bp0 = false; wel = false; rste = true; used = false; mode = Awake; busy = 84 }) 2) ∷
+    (paced 8 (whole (0xF0 ∷ 0xD0 ∷ []) 0) ⇒ quiet "control" (record { bpl = false; bp0 = false; wel = false; rste = true; used = false; mode = Awake; busy = 0 }) 2) ∷
+    [])
+    []
+
+-- refusal 8: 1,000 ticks a position are accepted, 1,001 are not, and then neither number counts; a sum of the two could not be held
+abbrev refusals : Row
+refusals =
+    row (busy 5000) 0xFF
+    ((paced 1001 (whole (0x05 ∷ 0x00 ∷ []) 7) ⇒ refused 8 (busy 5000) 2) ∷
+    (paced 1000 (whole (0x05 ∷ 0x00 ∷ []) 7) ⇒ came "read" 1 1 (busy 2993) (0xFF ∷ 0x11 ∷ [])) ∷
+    (paced 1000 (whole (0x05 ∷ 0x00 ∷ []) 18446744073709551615) ⇒ came "read" 1 1 idle (0xFF ∷ 0x10 ∷ [])) ∷
+    [])
+    []
+
+-- and 7 before 8: a duration of 0 ticks
+abbrev seven-first : Row
+seven-first =
+    record {
+      settings = record { ticks = 12 ∷ 2000 ∷ 7000 ∷ 50000 ∷ 400000 ∷ 1600000 ∷ 400 ∷ 0 ∷ [] };
+      device = enabled;
+      size = 131072;
+      holds = 0x00;
+      exchanges = (paced 1001 (whole (0x60 ∷ []) 0) ⇒ refused 7 enabled 1) ∷ [];
+      array = [];
+      register = [];
+    }
+
+unfoldable pub polls : List Row
+polls =
+    falls-in-byte-one ∷ falls-in-byte-two ∷ falls-at-the-first-bit ∷ one-tick-more ∷ does-not-fall ∷ others-stand ∷ positions ∷ ignored ∷ heard ∷
+    begins-at-the-rise ∷ resets ∷ refusals ∷ seven-first ∷ []
