@@ -58,8 +58,8 @@ pub(crate) fn is_register(length: usize) -> bool
     length == 128
 }
 
-// The bytes that so many bits need, for any number of bits.
-fn bytes_for(bits: u64) -> u64
+// The bytes that so many bits need, for any number of bits: as many positions has a frame.
+pub fn bytes_for(bits: u64) -> u64
     ensures { λ r. ⌜ r ≡ bytesFor bits ⌝ }
 {
     bits / 8 + (bits % 8 + 7) / 8

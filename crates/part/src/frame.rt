@@ -4,6 +4,7 @@ use crate::memory::carry_out;
 use crate::output::show;
 use lent::refusal::Lengths;
 use lent::refusal::Refusal;
+use lent::refusal::bytes_for;
 use lent::refusal::refusal_of;
 use settings::Settings;
 use sheet::device::Device;
@@ -38,7 +39,7 @@ fn ticks_of(signals: Signals) -> u64
     requires { ⌜ (signals .bits ≤ 65536) × (signals .pace ≤ 1000) ⌝ }
     ensures { λ r. ⌜ r ≡ bytesFor (signals .bits) * signals .pace ⌝ }
 {
-    (signals.bits + 7) / 8 * signals.pace
+    bytes_for(signals.bits) * signals.pace
 }
 
 // What judging needs to know of a frame, and of the part at its first bit.
@@ -92,17 +93,7 @@ fn served(
     let timed = device.passed(signals.elapsed);
     let risen = timed.passed(ticks_of(signals));
     let judged = judge(risen, settings, facts_of(input, signals, 0 < timed.busy));
-    show(
-        judged,
-        timed,
-        signals.pace,
-        signals.wp,
-        signals.bits,
-        array,
-        register,
-        input,
-        output,
-    );
+    show(judged, timed, signals, array, register, input, output);
     let action = judged.action;
     carry_out(action, array, register, input);
     let outcome = judged.outcome;

@@ -1,5 +1,6 @@
 // What the output positions of a frame read.
 use crate::bytes::address_of;
+use crate::frame::Signals;
 use cells::copy::copy_out;
 use cells::range::fill;
 use opcodes::Source;
@@ -39,11 +40,12 @@ fn idle_from(busy: u64, pace: u64, first: usize, end: usize) -> usize
 }
 
 // The positions from `first` up to `end` receive the status bytes in turn: those of a busy part, and from where busy ends those of an idle one.
-fn send_status(device: Device, pace: u64, wp: bool, first: usize, end: usize, output: &mut [u8])
+fn send_status(device: Device, signals: Signals, first: usize, end: usize, output: &mut [u8])
     requires { ⌜ (first ≤ end) × (end ≤ length (now output)) ⌝ }
-    ensures { λ _. ⌜ now (output .exit) ≡ each (shown (standing device pace) wp first end) (now (output .entry)) ⌝ }
+    ensures { λ _. ⌜ now (output .exit) ≡ each (shown (standing device (signals .pace)) (signals .wp) first end) (now (output .entry)) ⌝ }
 {
-    let turn = idle_from(device.busy, pace, first, end);
+    let turn = idle_from(device.busy, signals.pace, first, end);
+    let wp = signals.wp;
     let busy = [status_one(device, wp), status_two(device)];
     copy_out(output, first, turn, &busy, 0);
     let idle = device.passed(device.busy);
@@ -55,8 +57,7 @@ fn send_status(device: Device, pace: u64, wp: bool, first: usize, end: usize, ou
 fn send(
     source: Source,
     device: Device,
-    pace: u64,
-    wp: bool,
+    signals: Signals,
     array: &[u8],
     register: &[u8],
     input: &[u8],
@@ -67,7 +68,7 @@ fn send(
     requires { ⌜ (0 < length (now array)) × (0 < length (now register)) × (first ≤ end) × (end ≤ length (now output)) ⌝ }
     ensures { λ _. ⌜
         now (output .exit) ≡
-        each (sent source (standing device pace) wp (store (now (array .entry))) (store (now (register .entry))) (now (input .entry)) first end) (now (output .entry))
+        each (sent source (standing device (signals .pace)) (signals .wp) (store (now (array .entry))) (store (now (register .entry))) (now (input .entry)) first end) (now (output .entry))
         ⌝ }
 {
     match source {
@@ -79,7 +80,7 @@ fn send(
             register,
             address_of(input) % register.len(),
         ),
-        Source::Status => send_status(device, pace, wp, first, end, output),
+        Source::Status => send_status(device, signals, first, end, output),
         Source::Identity => {
             let bytes = [0x1Fu8, 0x42u8, 0x00u8, 0x00u8];
             copy_out(output, first, end, &bytes, 0);
@@ -95,8 +96,7 @@ fn send(
 fn read_out(
     source: Source,
     device: Device,
-    pace: u64,
-    wp: bool,
+    signals: Signals,
     array: &[u8],
     register: &[u8],
     input: &[u8],
@@ -110,7 +110,7 @@ fn read_out(
         now (output .exit) ≡
         each
         (stored (range 0 (length (now (input .entry))))
-        (driveAt source first end (standing device pace) wp (store (now (array .entry))) (store (now (register .entry))) (now (input .entry))))
+        (driveAt source first end (standing device (signals .pace)) (signals .wp) (store (now (array .entry))) (store (now (register .entry))) (now (input .entry))))
         (now (output .entry))
         ⌝ }
 {
@@ -118,8 +118,7 @@ fn read_out(
     send(
         source,
         device,
-        pace,
-        wp,
+        signals,
         array,
         register,
         input,
@@ -134,8 +133,7 @@ fn read_out(
 fn drive(
     judged: Judged,
     device: Device,
-    pace: u64,
-    wp: bool,
+    signals: Signals,
     array: &[u8],
     register: &[u8],
     input: &[u8],
@@ -147,7 +145,7 @@ fn drive(
         now (output .exit) ≡
         each
         (stored (range 0 (length (now (input .entry))))
-        (lineAt (judged .action) judged (standing device pace) wp (store (now (array .entry))) (store (now (register .entry))) (now (input .entry))))
+        (lineAt (judged .action) judged (standing device (signals .pace)) (signals .wp) (store (now (array .entry))) (store (now (register .entry))) (now (input .entry))))
         (now (output .entry))
         ⌝ }
 {
@@ -160,8 +158,7 @@ fn drive(
         Action::Drive(source) => read_out(
             source,
             device,
-            pace,
-            wp,
+            signals,
             array,
             register,
             input,
@@ -191,9 +188,7 @@ fn clip(output: &mut [u8], bytes: usize, bits: u64)
 pub(crate) fn show(
     judged: Judged,
     device: Device,
-    pace: u64,
-    wp: bool,
-    bits: u64,
+    signals: Signals,
     array: &[u8],
     register: &[u8],
     input: &[u8],
@@ -201,16 +196,16 @@ pub(crate) fn show(
 )
     requires { ⌜ (0 < length (now array)) × (0 < length (now register)) ⌝ }
     requires { ⌜
-        (judged .first + judged .driven ≤ length (now input)) × (length (now input) ≤ length (now output)) × ((bits + 7) / 8 ≡ length (now input))
+        (judged .first + judged .driven ≤ length (now input)) × (length (now input) ≤ length (now output)) × ((signals .bits + 7) / 8 ≡ length (now input))
         ⌝ }
     ensures { λ _. ⌜
         now (output .exit) ≡
         each
         (stored (range 0 (length (now (input .entry))))
-        (readAt judged (standing device pace) wp bits (store (now (array .entry))) (store (now (register .entry))) (now (input .entry))))
+        (readAt judged (standing device (signals .pace)) (signals .wp) (signals .bits) (store (now (array .entry))) (store (now (register .entry))) (now (input .entry))))
         (now (output .entry))
         ⌝ }
 {
-    drive(judged, device, pace, wp, array, register, input, output);
-    clip(output, input.len(), bits);
+    drive(judged, device, signals, array, register, input, output);
+    clip(output, input.len(), signals.bits);
 }

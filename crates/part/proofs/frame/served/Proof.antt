@@ -4,7 +4,6 @@ use Prim.Native.Nat.{_+_, _/_, _≤_}
 use mathlib.Core.Path.{_≡_}
 use native.Mathlib.Omega.{arith}
 use borrow.Author.Needs.{needs}
-use lib.Dec.{ltb}
 use lib.ListN.{length}
 use Rattle.sheet.proofs.Leaves.{within}
 use Rattle.sizes.proofs.Long.{array-long}
@@ -30,7 +29,7 @@ inside : (c : tie.After-judge) → c .judge .result .first + c .judge .result .d
 inside c =
     let a = c .before .before .before .before .before .before .before .before .before .before .args in
     rw (c .judge .ensures, c .before .facts-of .ensures)
-    (within (c .before .before .before .passed2 .result) (a .settings) (factsFor (a .input .now) (a .signals) (ltb 0 (c .before .before .before .before .before .passed .result .busy))))
+    (within _ (a .settings) (factsFor (a .input .now) (a .signals) _))
 
 -- and its ticks are few enough to be counted
 ticks-of-requires : tie.Need-ticks-of-requires

@@ -1,8 +1,9 @@
 -- `part::frame::ticks_of` meets its contract: the ticks of a frame that is accepted are a number that fits. Assumes nothing.
-use Prim.Native.Nat.{_+_, _*_, _/_, _≤_}
+use Prim.Native.Nat.{_*_, _≤_}
 use native.Mathlib.Nat.{mul-le-mul}
 use native.Mathlib.Omega.{arith}
 use borrow.Author.Needs.{needs}
+use Rattle.lent.specs.Refusal.{bytesFor}
 use Rattle.part.proofs.frame.ticks_of.Statement.{statement}
 use Rattle.part.proofs.frame.ticks_of.Tie as tie
 
@@ -10,14 +11,18 @@ use Rattle.part.proofs.frame.ticks_of.Tie as tie
 mul-result : tie.Need-mul-result
 mul-result c =
     let a = c .before .before in
-    let positions : (a .args .signals .bits + 7) / 8 ≤ 8192 = omega (arith, a .pre .0) in
-    let most : (a .args .signals .bits + 7) / 8 * a .args .signals .pace ≤ 8192 * 1000 = mul-le-mul positions (a .pre .1) in
+    let positions : bytesFor (a .args .signals .bits) ≤ 8192 = omega (arith, a .pre .0) in
+    let few : c .before .bytes-for .result ≤ 8192 = rw (c .before .bytes-for .ensures) positions in
+    let most : c .before .bytes-for .result * a .args .signals .pace ≤ 8192 * 1000 = mul-le-mul few (a .pre .1) in
     omega arith
+
+returns : tie.Need-returns
+returns c = rw (c .before .bytes-for .ensures)
 
 pub ticks-of-spec : {M : Type 1} → statement M
 ticks-of-spec =
     tie.close
     (tie.spec
-    (λ c. search needs)
+    (λ c κs. search needs)
     mul-result
-    (λ c. search needs))
+    returns)

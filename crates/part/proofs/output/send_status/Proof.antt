@@ -10,7 +10,7 @@ returns c =
     let turn = c .before .before .before .before .before .before .before .before .before .before .before .before .before .before .before in
     let a = turn .before .before .args in
     rw (c .before .before .copy-out2 .ensures, c .before .before .before .before .before .status-two2 .ensures, c .before .before .before .before .before .before .status-one2 .ensures, c .before .before .before .before .before .before .before .before .before .before .copy-out .ensures, c .before .before .before .before .before .before .before .before .before .before .before .before .before .status-two .ensures, c .before .before .before .before .before .before .before .before .before .before .before .before .before .before .status-one .ensures)
-    (shown-in-turn (a .device) (idle .passed .result) (a .wp) (a .pace) (a .first) (turn .idle-from .result) (a .end) (a .output .now) (idle .passed .ensures)
+    (shown-in-turn (a .device) (idle .passed .result) (a .signals .wp) (a .signals .pace) (a .first) (turn .idle-from .result) (a .end) (a .output .now) (idle .passed .ensures)
     (turn .idle-from .ensures .0) (turn .idle-from .ensures .1) (turn .idle-from .ensures .2))
 
 pub send-status-spec : {M : Type 1} → statement M

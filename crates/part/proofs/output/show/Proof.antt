@@ -12,7 +12,7 @@ unfolding readAt
 returns c =
     let a = c .before .before .before .before .before .before .before .before .before .before .before .before .args in
     rw (c .before .before .clip .ensures, c .before .before .before .before .before .before .drive .ensures)
-    (line-clipped (lineAt (a .judged .action) (a .judged) (standing (a .device) (a .pace)) (a .wp) (store (a .array .now)) (store (a .register .now)) (a .input .now)) (a .bits)
+    (line-clipped (lineAt (a .judged .action) (a .judged) (standing (a .device) (a .signals .pace)) (a .signals .wp) (store (a .array .now)) (store (a .register .now)) (a .input .now)) (a .signals .bits)
     (length (a .input .now)) (a .output .now))
 
 pub show-spec : {M : Type 1} → statement M
