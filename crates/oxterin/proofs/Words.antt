@@ -7,7 +7,7 @@ use borrow.Author.Tests.{eqb-true}
 use lib.ListN.{length}
 use Rattle.settings.specs.declared.Settings.{Settings}
 use Rattle.sheet.specs.declared.device.Device.{Device}
-use Rattle.part.specs.declared.frame.Signals.{Signals}
+use Rattle.input.specs.declared.Signals.{Signals}
 use Rattle.part.specs.declared.frame.Answer.{Answer}
 use Rattle.part.specs.Frame.{Lent, call, frame, replyOf, Meets}
 use Rattle.packing.specs.Packing.{packed, isRecord, deviceOf, isSettings, settingsOf, isSignals, signalsOf, isAnswer, answerOf}

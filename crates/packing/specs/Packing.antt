@@ -11,7 +11,7 @@ use Rattle.settings.specs.declared.Settings.{Settings}
 use Rattle.sheet.specs.declared.device.Device.{Device}
 use Rattle.sheet.specs.declared.device.Mode.{Mode}
 use Rattle.lent.specs.declared.look.Memory.{Memory}
-use Rattle.part.specs.declared.frame.Signals.{Signals}
+use Rattle.input.specs.declared.Signals.{Signals}
 use Rattle.part.specs.Frame.{Reply}
 
 -- a flag is 1 or 0

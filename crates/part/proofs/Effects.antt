@@ -13,7 +13,7 @@ use Rattle.sheet.specs.Begins.{changesArray, ready}
 use Rattle.sheet.proofs.Begins.{exactly-when}
 use Rattle.sheet.proofs.Leaves.{as-asked}
 use Rattle.part.specs.Words.{wordOf}
-use Rattle.part.specs.Operations.{cellOf, onArray}
+use Rattle.memory.specs.Operations.{cellOf, onArray}
 use Rattle.part.specs.Frame.{Call, Lent, lengthsOf, numberFor, risen, factsOf, judgedOf, replied, frame}
 use Rattle.part.specs.Effect.{takesEffect, operationOf}
 

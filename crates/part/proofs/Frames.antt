@@ -7,9 +7,9 @@ use Rattle.cells.specs.Each.{each, stored}
 use Rattle.cells.specs.Range.{range}
 use Rattle.sheet.specs.declared.device.Device.{Device}
 use Rattle.sheet.specs.declared.judge.Judged.{Judged}
-use Rattle.part.specs.Operations.{cellOf, onArray, onRegister}
-use Rattle.part.specs.Output.{store, readAt}
-use Rattle.part.specs.Time.{standing}
+use Rattle.memory.specs.Operations.{cellOf, onArray, onRegister}
+use Rattle.output.specs.Output.{store, readAt}
+use Rattle.output.specs.Time.{standing}
 use Rattle.part.specs.Frame.{Call, Lent, lent, timed, judgedOf, answered, served}
 
 pub together : (c : Call) (m : Lent) (d : Device) (j : Judged) (array register output : List ℕ) → d ≡ timed c → j ≡ judgedOf c

@@ -7,7 +7,7 @@ use lib.Dec.{eqb}
 use Rattle.sheet.specs.declared.device.Device.{Device}
 use Rattle.sheet.specs.Judging.{judged}
 use Rattle.lent.specs.Refusal.{bytesFor, refusalOf}
-use Rattle.part.specs.Time.{standing}
+use Rattle.output.specs.Time.{standing}
 use Rattle.part.specs.Frame.{Call, Lent, Result, lengthsOf, timed, factsOf, answered, refused, lentBy, numberFor, judgedOf, replied, frame}
 use Rattle.part.specs.Frozen.{frozen}
 

@@ -18,12 +18,12 @@ use Rattle.sheet.specs.Judging.{judged}
 use Rattle.lent.specs.declared.refusal.Lengths.{Lengths}
 use Rattle.lent.specs.declared.refusal.Refusal.{Refusal}
 use Rattle.lent.specs.Refusal.{numberOf, bytesFor, refusalOf}
-use Rattle.part.specs.declared.frame.Signals.{Signals}
+use Rattle.input.specs.declared.Signals.{Signals}
 use Rattle.part.specs.declared.frame.Answer.{Answer}
 use Rattle.part.specs.Words.{wordOf}
-use Rattle.part.specs.Time.{standing}
-use Rattle.part.specs.Operations.{cellOf, onArray, onRegister}
-use Rattle.part.specs.Output.{store, readAt}
+use Rattle.output.specs.Time.{standing}
+use Rattle.memory.specs.Operations.{cellOf, onArray, onRegister}
+use Rattle.output.specs.Output.{store, readAt}
 
 -- what a call is handed, beside the memories: the record, the settings, the input bytes, and the bits clocked, WP's level, the ticks
 -- elapsed and the ticks per byte position

@@ -1,11 +1,12 @@
 // One chip-select frame.
-use crate::bytes::byte_at;
-use crate::memory::carry_out;
-use crate::output::show;
+use input::Signals;
+use input::byte_at;
 use lent::refusal::Lengths;
 use lent::refusal::Refusal;
 use lent::refusal::bytes_for;
 use lent::refusal::refusal_of;
+use memory::carry_out;
+use output::show;
 use settings::Settings;
 use sheet::device::Device;
 use sheet::judge::Facts;
@@ -15,15 +16,6 @@ ghost use mathlib.Core.Path.{_≡_};
 ghost use Prim.Native.Nat.{_*_, _≤_};
 ghost use Rattle.lent.specs.Refusal.{bytesFor};
 ghost use Rattle.part.specs.Frame as spec;
-
-// The bits clocked, whether WP is high for the whole frame, the ticks elapsed since the call before, and the ticks that each byte position
-// of the frame takes, a partial last one too.
-pub struct Signals {
-    pub bits: u64,
-    pub wp: bool,
-    pub elapsed: u64,
-    pub pace: u64,
-}
 
 // Why the call was refused, its outcome, the first driven position, how many are driven, and the record as it then stands.
 pub struct Answer {

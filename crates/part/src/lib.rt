@@ -1,5 +1,2 @@
 // The part itself: a chip-select frame, from its first bit to the rise, on memories that the caller lends.
-mod bytes;
 pub mod frame;
-mod memory;
-mod output;

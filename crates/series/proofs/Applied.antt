@@ -10,7 +10,7 @@ use Rattle.cells.specs.Each.{Cell, each, over}
 use Rattle.cells.specs.Page.{aimedAt, last}
 use Rattle.cells.proofs.Places.{length-each, each-same, each-then}
 use Rattle.cells.proofs.Laws.{programs-commute, program-twice, erase-twice}
-use Rattle.part.specs.Operations.{Operation, none, program, erase, cellOf}
+use Rattle.memory.specs.Operations.{Operation, none, program, erase, cellOf}
 use Rattle.series.specs.Bytes.{Program, applied, erases, erasedIn, since, byteOf, bytesAt, andAll, startAt, programOf}
 
 -- two lists joined: the second on what the first one left

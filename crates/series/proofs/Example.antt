@@ -13,7 +13,7 @@ use Rattle.opcodes.specs.Rows.{rowOf, rows, lookup}
 use Rattle.sheet.specs.Judging.{judged, byOpcode}
 use Rattle.settings.specs.Settings.{anyUnfair}
 use Rattle.lent.specs.Refusal.{refusalOf}
-use Rattle.part.specs.Operations.{Operation}
+use Rattle.memory.specs.Operations.{Operation}
 use Rattle.part.specs.Frame.{Reply, Result, judgedOf, numberFor, replied}
 use Rattle.series.specs.Turns.{replies, operations}
 use Rattle.series.specs.Series.{Step, State, Made, turnsOf, results, end, Ran}

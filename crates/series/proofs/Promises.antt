@@ -16,7 +16,7 @@ use Rattle.sheet.specs.Device.{awake, unsound}
 use Rattle.sheet.proofs.Begins.{exactly-when}
 use Rattle.sheet.proofs.Leaves.{reset-still}
 use Rattle.sheet.proofs.Records.{sound-then}
-use Rattle.part.specs.Operations.{Operation, onRegister}
+use Rattle.memory.specs.Operations.{Operation, onRegister}
 use Rattle.part.specs.Frame.{Reply, Result, Meets, factsOf, risen, judgedOf, numberFor}
 use Rattle.part.specs.Frame as part
 use Rattle.part.proofs.Answers.{answerOf, some-answer}

@@ -9,7 +9,7 @@ use lib.ListN.{length}
 use Rattle.cells.specs.Each.{each, stored}
 use Rattle.cells.specs.Range.{range}
 use Rattle.sheet.specs.declared.device.Device.{Device}
-use Rattle.part.specs.Output.{Store, readAt}
+use Rattle.output.specs.Output.{Store, readAt}
 use Rattle.part.specs.Frame.{Call, Lent, lent, standsAt, judgedOf, numberFor, frame}
 use Rattle.part.specs.Frame as part
 use Rattle.series.specs.Turns.{callOf, lengthsOf, replyTo, effectOf}

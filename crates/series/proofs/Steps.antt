@@ -14,11 +14,11 @@ use Rattle.cells.proofs.Places.{length-each}
 use Rattle.opcodes.specs.Rows.{rowOf}
 use Rattle.sheet.specs.Begins.{asksFor}
 use Rattle.sheet.specs.declared.device.Device.{Device}
-use Rattle.part.specs.Operations.{Operation, cellOf, onRegister}
+use Rattle.memory.specs.Operations.{Operation, cellOf, onRegister}
 use Rattle.part.specs.Frame.{Call, Lent, Result, factsOf, judgedOf, numberFor, replied, frame}
 use Rattle.part.specs.Frame as part
 use Rattle.part.specs.Effect.{takesEffect, operationOf}
-use Rattle.part.proofs.Blocks.{operation-inside, once-inside}
+use Rattle.memory.proofs.Blocks.{operation-inside, once-inside}
 use Rattle.part.proofs.Effects.{only-then, then-always}
 use Rattle.series.specs.Turns.{Turn, callOf, lengthsOf, replyTo, effectOf}
 use Rattle.series.specs.Series.{Step, State, returned, lentTo, resultOf, left, results, end}

@@ -19,8 +19,8 @@ use Rattle.opcodes.specs.declared.Source.the-variants.{Array, Register, Status,
 use Rattle.sheet.specs.declared.device.Device.{Device}
 use Rattle.sheet.specs.declared.judge.Action.{Action}
 use Rattle.sheet.specs.declared.judge.Judged.{Judged}
-use Rattle.part.specs.Operations.{Operation, none, program, erase, cellOf}
-use Rattle.part.specs.Output.{Store, store, storeOf, startOf, byteFrom, lineAt, unclocked, readAt}
+use Rattle.memory.specs.Operations.{Operation, none, program, erase, cellOf}
+use Rattle.output.specs.Output.{Store, store, storeOf, startOf, byteFrom, lineAt, unclocked, readAt}
 use Rattle.series.specs.Bytes.{applied}
 use Rattle.series.specs.Worked.{Piece, blank, painted}
 use Rattle.series.proofs.Applied.{applied-joined, applied-each, length-applied, through}

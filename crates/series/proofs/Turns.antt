@@ -20,7 +20,7 @@ use Rattle.sheet.proofs.Begins.{exactly-when}
 use Rattle.sheet.proofs.Leaves.{as-asked, stays-sound}
 use Rattle.sheet.proofs.Records.{stays-idle, passed-sound}
 use Rattle.lent.proofs.Lengths.{Accepted, accepted}
-use Rattle.part.specs.Operations.{Operation, onArray}
+use Rattle.memory.specs.Operations.{Operation, onArray}
 use Rattle.part.specs.Words.{wordOf}
 use Rattle.part.proofs.Answers as answers
 use Rattle.part.specs.Frame.{Call, Reply, numberFor, timed, risen, factsOf, judgedOf, answered, refused, replied}

@@ -14,7 +14,7 @@ use Rattle.opcodes.specs.Rows.{rowOf, rows, lookup}
 use Rattle.sheet.specs.Judging.{judged, byOpcode}
 use Rattle.settings.specs.Settings.{anyUnfair}
 use Rattle.lent.specs.Refusal.{refusalOf}
-use Rattle.part.specs.Output.{readAt}
+use Rattle.output.specs.Output.{readAt}
 use Rattle.part.specs.Frame.{judgedOf, numberFor, replied}
 use Rattle.series.specs.Series.{State, results, end}
 use Rattle.series.specs.Worked.{Exchange, Came, Row, Worked, EachWorked, Piece, blank, canary, stepOf, stepsOf, startOf, cameOf, painted}

@@ -7,7 +7,7 @@ use lib.ListN.{length}
 use Rattle.cells.specs.Each.{each}
 use Rattle.cells.specs.Page.{aimedAt, last}
 use Rattle.cells.specs.Range.{range}
-use Rattle.part.specs.Operations.{Operation, none, program, erase, cellOf}
+use Rattle.memory.specs.Operations.{Operation, none, program, erase, cellOf}
 
 -- the operations carried out, one after the other
 unfoldable pub applied : List Operation → List ℕ → List ℕ

@@ -8,7 +8,7 @@ use mathlib.Core.Path.{_≡_}
 use lib.ListN.{length, getD}
 use Rattle.sheet.specs.declared.device.Device.{Device}
 use Rattle.sheet.specs.Device.{awake, unsound}
-use Rattle.part.specs.Operations.{Operation}
+use Rattle.memory.specs.Operations.{Operation}
 use Rattle.lent.specs.declared.refusal.Lengths.{Lengths}
 use Rattle.part.specs.Frame.{Call, Reply, Result, Meets, call, lent, refused, replied, frame}
 use Rattle.part.specs.Effect.{takesEffect, operationOf}

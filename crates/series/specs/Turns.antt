@@ -8,8 +8,8 @@ use lib.ListN.{length}
 use Rattle.sheet.specs.declared.device.Device.{Device}
 use Rattle.settings.specs.declared.Settings.{Settings}
 use Rattle.lent.specs.declared.refusal.Lengths.{Lengths}
-use Rattle.part.specs.declared.frame.Signals.{Signals}
-use Rattle.part.specs.Operations.{Operation}
+use Rattle.input.specs.declared.Signals.{Signals}
+use Rattle.memory.specs.Operations.{Operation}
 use Rattle.part.specs.Frame.{Call, Reply, call, replied}
 use Rattle.part.specs.Effect.{takesEffect, operationOf}
 

@@ -1,6 +1,6 @@
 // The built-in session: four frames on a small part whose programs take 2,000 ticks each. A line gives a frame's bytes, what the output
 // reads, and status byte 1 after the call.
-use part::frame::Signals;
+use input::Signals;
 use part::frame::frame;
 use settings::Settings;
 use sheet::device::Device;

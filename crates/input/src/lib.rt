@@ -1,0 +1,37 @@
+// What a frame is handed as: its bytes, and the signals beside them.
+ghost use mathlib.Core.Path.{_≡_};
+ghost use Prim.Native.Nat.{_<_};
+ghost use lib.ListN.{getD};
+ghost use Rattle.input.specs.Address.{addressOf};
+
+// The bits clocked, whether WP is high for the whole frame, the ticks elapsed since the call before, and the ticks that each byte position
+// of the frame takes, a partial last one too.
+pub struct Signals {
+    pub bits: u64,
+    pub wp: bool,
+    pub elapsed: u64,
+    pub pace: u64,
+}
+
+// The byte at a position, or 0 if the frame is shorter.
+pub fn byte_at(input: &[u8], position: usize) -> u8
+    ensures { λ r. ⌜ r ≡ getD (now (input .entry)) position 0 ⌝ }
+{
+    if position < input.len() {
+        return input[position];
+    }
+    0
+}
+
+fn wide(byte: u8) -> usize
+    ensures { λ r. ⌜ (r ≡ byte) × (r < 256) ⌝ }
+{
+    byte as usize
+}
+
+// The three bytes behind the opcode, high first.
+pub fn address_of(input: &[u8]) -> usize
+    ensures { λ r. ⌜ r ≡ addressOf (now (input .entry)) ⌝ }
+{
+    wide(byte_at(input, 1)) * 65536 + wide(byte_at(input, 2)) * 256 + wide(byte_at(input, 3))
+}

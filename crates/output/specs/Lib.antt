@@ -1,0 +1,3 @@
+pub mod Time
+pub mod Output
+pub mod Steps
