@@ -7,15 +7,23 @@ use Rattle.cells.specs.Each.{each, stored}
 use Rattle.cells.specs.Range.{range}
 use Rattle.sheet.specs.declared.device.Device.{Device}
 use Rattle.sheet.specs.declared.judge.Judged.{Judged}
+use Rattle.sheet.specs.Device.{isBusy}
+use Rattle.sheet.specs.Judging.{judged}
 use Rattle.memory.specs.Operations.{cellOf, onArray, onRegister}
 use Rattle.output.specs.Output.{store, readAt}
 use Rattle.output.specs.Time.{standing}
-use Rattle.part.specs.Frame.{Call, Lent, lent, timed, judgedOf, answered, served}
+use Rattle.part.specs.Frame.{Call, Lent, lent, timed, risen, factsFor, judgedOf, answered, served}
 
-pub together : (c : Call) (m : Lent) (d : Device) (j : Judged) (array register output : List ℕ) → d ≡ timed c → j ≡ judgedOf c
+-- from the record at the first bit, that at the rise, and what was judged of the two
+pub together : (c : Call) (m : Lent) (d r : Device) (j : Judged) (array register output : List ℕ) → d ≡ timed c → r ≡ risen c
+    → j ≡ judged r (c .settings) (factsFor (c .input) (c .signals) (isBusy d))
     → array ≡ each (cellOf (onArray (j .action) (length (m .array)) (c .input))) (m .array)
     → register ≡ each (cellOf (onRegister (j .action) (c .input))) (m .register)
     → output
-    ≡ each (stored (range 0 (length (c .input))) (readAt j (standing d (c .signals .pace)) (c .signals .wp) (c .signals .bits) (store (m .array)) (store (m .register)) (c .input))) (m .output)
+    ≡ each
+    (stored (range 0 (length (c .input)))
+    (readAt j (standing d (c .signals .pace)) (c .signals .wp) (c .signals .bits) (store (m .array)) (store (m .register)) (c .input)))
+    (m .output)
     → record { reply = answered j; lent = lent array register output } ≡ served c m
-together c m d j array register output t e p q r = rw (p, q, r, t, e)
+unfolding judgedOf
+together c m d r j array register output t u e p q o = rw (p, q, o, e, t, u)

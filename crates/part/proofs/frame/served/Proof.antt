@@ -1,14 +1,15 @@
 -- `part::frame::served` meets its contract: the lengths of an accepted call are what the steps need, and the steps together make the
 -- answer. Assumes nothing.
 use Prim.Native.Nat.{_+_, _/_, _≤_}
-use mathlib.Core.Path.{_≡_}
+use mathlib.Core.Path.{_≡_, ap, _∙_}
 use native.Mathlib.Omega.{arith}
 use borrow.Author.Needs.{needs}
 use lib.ListN.{length}
+use Rattle.sheet.specs.Judging as judging
 use Rattle.sheet.proofs.Leaves.{within}
 use Rattle.sizes.proofs.Long.{array-long}
 use Rattle.lent.proofs.Lengths.{Accepted, accepted}
-use Rattle.part.specs.Frame.{Call, Lent, call, lent, lengthsOf, numberFor, factsFor, judgedOf}
+use Rattle.part.specs.Frame.{Call, Lent, call, lent, lengthsOf, numberFor, factsFor}
 use Rattle.part.proofs.Frames.{together}
 use Rattle.part.proofs.frame.served.Statement.{statement}
 use Rattle.part.proofs.frame.served.Tie as tie
@@ -52,7 +53,6 @@ carry-out-requires c κs =
     (array-long _ (o .array) .0, array-long _ (o .array) .1, o .register)
 
 returns : tie.Need-returns
-unfolding judgedOf
 returns c =
     let carried = c .before .before .before .before .before in
     let shown = c .before .before .before .before .before .before .before .before .before .before in
@@ -60,9 +60,10 @@ returns c =
     let rise = judged .before .before .before in
     let time = rise .before .before in
     let a = time .before .before .before .before .before in
-    together (callAt a) (lentAt a) (time .passed .result) (judged .judge .result) _ _ _ (time .passed .ensures)
-    (rw (judged .judge .ensures, judged .before .facts-of .ensures, rise .passed2 .ensures, rise .before .ticks-of .ensures, time .passed .ensures)) (carried .carry-out .ensures .0) (carried .carry-out .ensures .1)
-    (shown .show .ensures)
+    together (callAt a) (lentAt a) (time .passed .result) (rise .passed2 .result) (judged .judge .result) _ _ _ (time .passed .ensures)
+    (rw (rise .passed2 .ensures, rise .before .ticks-of .ensures, time .passed .ensures))
+    (judged .judge .ensures ∙ ap (judging.judged (rise .passed2 .result) (a .args .settings)) (judged .before .facts-of .ensures))
+    (carried .carry-out .ensures .0) (carried .carry-out .ensures .1) (shown .show .ensures)
 
 pub served-spec : {M : Type 1} → statement M
 served-spec =
