@@ -3,8 +3,3 @@ pub mod Applied
 pub mod Turns
 pub mod Steps
 pub mod Promises
-pub mod Halves
-pub mod Told
-pub mod Runs
-pub mod Worked
-pub mod Example

@@ -2,9 +2,3 @@ pub mod Turns
 pub mod Series
 pub mod Bytes
 pub mod Promises
-pub mod Worked
-pub mod Words
-pub mod Table
-pub mod Further
-pub mod Polls
-pub mod Example

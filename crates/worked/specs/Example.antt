@@ -9,11 +9,11 @@ use lib.ListN.{length, getD, take, replicate}
 use Rattle.settings.specs.Settings.{typical}
 use Rattle.memory.specs.Operations.{program, erase}
 use Rattle.part.specs.Frame.{Result}
 use Rattle.series.specs.Series.{Step, State, results, end}
 use Rattle.series.specs.Bytes.{applied, since, bytesAt}
 use Rattle.series.specs.Promises.{effects}
-use Rattle.series.specs.Worked.{blank}
-use Rattle.series.specs.Words.{idle}
+use Rattle.worked.specs.Worked.{blank}
+use Rattle.worked.specs.Words.{idle}
 
 -- a call with WP high and the typical times, whose frame takes no time, so many ticks after the call before, that is lent so many bytes of array, register and output
 abbrev lends : ℕ → ℕ → ℕ → ℕ → List ℕ → Step

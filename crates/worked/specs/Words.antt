@@ -7,7 +7,7 @@ use lib.ListN.{length, replicate}
 use Rattle.sheet.specs.declared.device.Device.{Device}
 use Rattle.sheet.specs.declared.device.Mode.the-variants.{Awake}
 use Rattle.settings.specs.Settings.{typical}
-use Rattle.series.specs.Worked.{Sent, Came, Exchange, Piece, Row, canary}
+use Rattle.worked.specs.Worked.{Sent, Came, Exchange, Piece, Row, canary}
 
 -- a record: BPL, BP0, WEL and the busy ticks; RSTE and the OTP-used mark clear, awake
 abbrev pub stands : Bool → Bool → Bool → ℕ → Device

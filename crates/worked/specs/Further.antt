@@ -6,8 +6,8 @@ use Rattle.sheet.specs.declared.device.Device.{Device}
 use Rattle.sheet.specs.declared.device.Mode.{Mode}
 use Rattle.sheet.specs.declared.device.Mode.the-variants.{Awake, Deep, UltraDeep}
 use Rattle.settings.specs.Settings.{typical}
-use Rattle.series.specs.Worked.{Exchange, Piece, Row}
-use Rattle.series.specs.Words.{stands, idle, enabled, busy, clocked, whole, low, came, quiet, refused, _⇒_, piece, row}
+use Rattle.worked.specs.Worked.{Exchange, Piece, Row}
+use Rattle.worked.specs.Words.{stands, idle, enabled, busy, clocked, whole, low, came, quiet, refused, _⇒_, piece, row}
 
 -- a record of a part that is not protected, with all else said
 abbrev told : Bool → Bool → Bool → Mode → ℕ → Device

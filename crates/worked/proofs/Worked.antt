@@ -16,15 +16,15 @@ use Rattle.settings.specs.Settings.{anyUnfair}
 use Rattle.lent.specs.Refusal.{refusalOf}
 use Rattle.output.specs.Output.{readAt}
 use Rattle.part.specs.Frame.{judgedOf, numberFor, replied}
 use Rattle.series.specs.Series.{State, results, end}
-use Rattle.series.specs.Worked.{Exchange, Came, Row, Worked, EachWorked, Piece, blank, canary, stepOf, stepsOf, startOf, cameOf, painted}
-use Rattle.series.specs.Table.{table}
-use Rattle.series.specs.Further.{further}
-use Rattle.series.specs.Polls.{polls}
 use Rattle.series.proofs.Applied.{through}
-use Rattle.series.proofs.Halves.{everywhere, halved}
-use Rattle.series.proofs.Told.{Told, Plain, told, memoryOf, begins-blank, agrees, steadyOperations, steadyPieces, steadyFor, one-side, apart, inside, painted-told}
-use Rattle.series.proofs.Runs.{Scene, AllWhole, stateOf, cameTold, next, allTold, endTold, all-told, end-told, end-plain}
+use Rattle.worked.specs.Worked.{Exchange, Came, Row, Worked, EachWorked, Piece, blank, canary, stepOf, stepsOf, startOf, cameOf, painted}
+use Rattle.worked.specs.Table.{table}
+use Rattle.worked.specs.Further.{further}
+use Rattle.worked.specs.Polls.{polls}
+use Rattle.worked.proofs.Halves.{everywhere, halved}
+use Rattle.worked.proofs.Told.{Told, Plain, told, memoryOf, begins-blank, agrees, steadyOperations, steadyPieces, steadyFor, one-side, apart, inside, painted-told}
+use Rattle.worked.proofs.Runs.{Scene, AllWhole, stateOf, cameTold, next, allTold, endTold, all-told, end-told, end-plain}
 
 abbrev sceneOf : Row → Scene
 sceneOf r = record { device = r .device; array = told (r .size) (r .holds); register = told 128 0xFF }

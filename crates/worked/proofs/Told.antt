@@ -21,10 +21,10 @@ use Rattle.sheet.specs.declared.judge.Action.{Action}
 use Rattle.sheet.specs.declared.judge.Judged.{Judged}
 use Rattle.memory.specs.Operations.{Operation, none, program, erase, cellOf}
 use Rattle.output.specs.Output.{Store, store, storeOf, startOf, byteFrom, lineAt, unclocked, readAt}
 use Rattle.series.specs.Bytes.{applied}
-use Rattle.series.specs.Worked.{Piece, blank, painted}
 use Rattle.series.proofs.Applied.{applied-joined, applied-each, length-applied, through}
-use Rattle.series.proofs.Halves.{everywhere, halved, at-each}
+use Rattle.worked.specs.Worked.{Piece, blank, painted}
+use Rattle.worked.proofs.Halves.{everywhere, halved, at-each}
 
 -- one byte everywhere
 pub record Plain : Type 0 where

@@ -15,14 +15,14 @@ use Rattle.settings.specs.Settings.{anyUnfair}
 use Rattle.lent.specs.Refusal.{refusalOf}
 use Rattle.memory.specs.Operations.{Operation}
 use Rattle.part.specs.Frame.{Reply, Result, judgedOf, numberFor, replied}
 use Rattle.series.specs.Turns.{replies, operations}
 use Rattle.series.specs.Series.{Step, State, Made, turnsOf, results, end, Ran}
 use Rattle.series.specs.Bytes.{applied, erasedIn, since, bytesAt}
 use Rattle.series.specs.Promises.{effects}
-use Rattle.series.specs.Example.{Example, ShutOut, steps, begins}
 use Rattle.series.proofs.Applied.{applied-each, through}
 use Rattle.series.proofs.Promises.{promises}
-use Rattle.series.proofs.Told.{length-blank, getD-blank}
+use Rattle.worked.specs.Example.{Example, ShutOut, steps, begins}
+use Rattle.worked.proofs.Told.{length-blank, getD-blank}
 
 -- a field of each answer
 told : {A : Type 0} (field : Reply → A) → map (λ (r : Result). field (r .reply)) (results steps begins) ≡ map field (replies (turnsOf steps) (begins .device))

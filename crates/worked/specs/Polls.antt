@@ -3,8 +3,8 @@
 use mathlib.Core.Bool.{true, false}
 use mathlib.Core.List.{List, [], _∷_}
 use Rattle.sheet.specs.declared.device.Mode.the-variants.{Awake}
-use Rattle.series.specs.Worked.{Sent, Row}
-use Rattle.series.specs.Words.{idle, enabled, busy, clocked, whole, low, paced, came, quiet, refused, _⇒_, piece, row}
+use Rattle.worked.specs.Worked.{Sent, Row}
+use Rattle.worked.specs.Words.{idle, enabled, busy, clocked, whole, low, paced, came, quiet, refused, _⇒_, piece, row}
 
 -- a status read of five status bytes, at 8 ticks a position: 48 ticks in all
 abbrev poll : Sent

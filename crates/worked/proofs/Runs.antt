@@ -12,12 +12,12 @@ use Rattle.sheet.specs.declared.device.Device.{Device}
 use Rattle.output.specs.Output.{Store, readAt}
 use Rattle.part.specs.Frame.{Call, Lent, lent, standsAt, judgedOf, numberFor, frame}
 use Rattle.part.specs.Frame as part
 use Rattle.series.specs.Turns.{callOf, lengthsOf, replyTo, effectOf}
 use Rattle.series.specs.Series.{Step, State, lentTo, resultOf, left, results, end}
-use Rattle.series.specs.Worked.{Came, cameOf}
 use Rattle.series.proofs.Lending.{lent-all}
 use Rattle.series.proofs.Steps.{same-lengths, reply-is, array-is, onceOf, register-is}
-use Rattle.series.proofs.Told.{Told, memoryOf, toldStore, more, length-told, goes-on, read-told}
+use Rattle.worked.specs.Worked.{Came, cameOf}
+use Rattle.worked.proofs.Told.{Told, memoryOf, toldStore, more, length-told, goes-on, read-told}
 
 -- what stands between the calls, told
 pub record Scene : Type 0 where

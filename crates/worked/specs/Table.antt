@@ -4,8 +4,8 @@ use mathlib.Core.Bool.{true, false}
 use mathlib.Core.List.{List, [], _∷_}
 use lib.ListN.{replicate}
 use Rattle.settings.specs.declared.Settings.{Settings}
-use Rattle.series.specs.Worked.{Row}
-use Rattle.series.specs.Words.{stands, idle, enabled, busy, clocked, whole, low, came, quiet, refused, _⇒_, piece, row}
+use Rattle.worked.specs.Worked.{Row}
+use Rattle.worked.specs.Words.{stands, idle, enabled, busy, clocked, whole, low, came, quiet, refused, _⇒_, piece, row}
 
 -- P1: after 06 a status read gives 12 00 12
 abbrev p1 : Row

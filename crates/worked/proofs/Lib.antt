@@ -1,0 +1,5 @@
+pub mod Halves
+pub mod Told
+pub mod Runs
+pub mod Worked
+pub mod Example
