@@ -73,7 +73,8 @@ settingsOf ws =
           getD ws 0 0 ∷ getD ws 1 0 ∷ getD ws 2 0 ∷ getD ws 3 0 ∷ getD ws 4 0 ∷ getD ws 5 0 ∷ getD ws 6 0 ∷ getD ws 7 0 ∷ [];
     }
 
--- the signals, four words: the bits clocked, WP's level, the ticks elapsed, the ticks per byte position; of three words the last is 0
+-- the signals, four words: the bits clocked, WP's level, the ticks elapsed, and the ticks per byte position, which are 0 where there are
+-- three words only
 abbrev pub isSignals : List ℕ → Bool
 isSignals ws = (eqb (length ws) 3 || eqb (length ws) 4) && isFlag (getD ws 1 0)
 

@@ -10,16 +10,16 @@ use Rattle.lent.specs.Refusal.{refusalOf}
 use Rattle.part.specs.Frame.{Call, Lent, Result, lengthsOf, timed, factsOf, answered, refused, lentBy}
 
 -- refusals 1 to 7
-abbrev numberOnce : Call → Lengths → ℕ
-numberOnce c lengths = refusalOf (c .device) (c .settings) (c .signals .bits) 0 lengths
+abbrev frozenNumber : Call → Lengths → ℕ
+frozenNumber c lengths = refusalOf (c .device) (c .settings) (c .signals .bits) 0 lengths
 
-abbrev judgedOnce : Call → Judged
-judgedOnce c = judged (timed c) (c .settings) (factsOf c)
+abbrev frozenJudged : Call → Judged
+frozenJudged c = judged (timed c) (c .settings) (factsOf c)
 
 abbrev pub frozen : Call → Lent → Result
 frozen c m =
-    let number = numberOnce c (lengthsOf c m) in
+    let number = frozenNumber c (lengthsOf c m) in
     record {
-      reply = cond (eqb number 0) (answered (judgedOnce c)) (refused number (c .device));
-      lent = cond (eqb number 0) (lentBy (judgedOnce c) (λ k. timed c) c m) m;
+      reply = cond (eqb number 0) (answered (frozenJudged c)) (refused number (c .device));
+      lent = cond (eqb number 0) (lentBy (frozenJudged c) (λ k. timed c) c m) m;
     }
