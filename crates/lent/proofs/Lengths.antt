@@ -10,11 +10,8 @@ use Rattle.sheet.specs.Device.{unsound}
 use Rattle.settings.specs.Settings.{anyUnfair}
 use Rattle.lent.specs.declared.refusal.Lengths.{Lengths}
 use Rattle.sizes.specs.Sizes.{isArray}
-use Rattle.lent.specs.Refusal.{isRegister, bytesFor, refusalOf}
-
--- a register's length
-pub register-long : (n : ℕ) → isRegister n ≡ true → n ≡ 128
-register-long n e = eqb-true n 128 e
+use Rattle.sizes.proofs.Long.{register-long}
+use Rattle.lent.specs.Refusal.{bytesFor, refusalOf}
 
 -- a refusal has a number above 0, so where the number is 0 it was not given
 passed : (b : Bool) (n m : ℕ) → cond b (suc n) m ≡ 0 → (b ≡ false) × (m ≡ 0)

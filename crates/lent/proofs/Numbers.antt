@@ -10,8 +10,8 @@ use Rattle.sheet.specs.Device.{unsound}
 use Rattle.settings.specs.Settings.{anyUnfair}
 use Rattle.lent.specs.declared.refusal.Lengths.{Lengths}
 use Rattle.lent.specs.declared.refusal.Refusal.{Refusal}
-use Rattle.sizes.specs.Sizes.{isArray}
-use Rattle.lent.specs.Refusal.{numberOf, isRegister, bytesFor, refusalOf}
+use Rattle.sizes.specs.Sizes.{isArray, isRegister}
+use Rattle.lent.specs.Refusal.{numberOf, bytesFor, refusalOf}
 
 -- what has a way back tells its arguments apart
 pub tells : {A B : Type 0} (f : A → B) (g : B → A) → ((a : A) → g (f a) ≡ a) → (a b : A) → f a ≡ f b → a ≡ b

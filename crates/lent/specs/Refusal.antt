@@ -3,7 +3,7 @@
 use Prim.Native.Nat.{ℕ, _+_, _/_}
 use mathlib.Core.Bool.{Bool, cond, not}
 use lib.Dec.{ltb, eqb}
-use Rattle.sizes.specs.Sizes.{isArray}
+use Rattle.sizes.specs.Sizes.{isArray, isRegister}
 use Rattle.sheet.specs.declared.device.Device.{Device}
 use Rattle.settings.specs.declared.Settings.{Settings}
 use Rattle.sheet.specs.Device.{unsound}
@@ -22,10 +22,6 @@ numberOf Refusal.OutputLength = 5
 numberOf Refusal.Record = 6
 numberOf Refusal.Duration = 7
 numberOf Refusal.Pace = 8
-
--- the security register's length
-abbrev pub isRegister : ℕ → Bool
-isRegister length = eqb length 128
 
 -- the bytes that so many bits need: divided by 8, rounded up
 abbrev pub bytesFor : ℕ → ℕ

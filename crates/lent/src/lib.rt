@@ -1,4 +1,2 @@
-// What a caller lends: which lengths are right, why a call is refused, and a look at a lent memory without a frame. Only lengths are
-// seen here, never a byte.
-pub mod look;
+// Why a call is refused: by what a caller lends, hands in and says. Only lengths are seen here, never a byte.
 pub mod refusal;

@@ -2,8 +2,9 @@
 use settings::Settings;
 use sheet::device::Device;
 use sizes::is_array;
+use sizes::is_register;
 ghost use mathlib.Core.Path.{_≡_};
-ghost use Rattle.lent.specs.Refusal.{numberOf, isRegister, bytesFor, refusalOf};
+ghost use Rattle.lent.specs.Refusal.{numberOf, bytesFor, refusalOf};
 
 // Why a call is refused, or that it is not.
 pub enum Refusal {
@@ -51,14 +52,7 @@ const MOST: usize = 8192;
 // The most ticks that a byte position may take.
 const SLOWEST: u64 = 1000;
 
-// Whether a security register of that length is the part's.
-pub(crate) fn is_register(length: usize) -> bool
-    ensures { λ r. ⌜ r ≡ isRegister length ⌝ }
-{
-    length == 128
-}
-
-// The bytes that so many bits need, for any number of bits: as many positions has a frame.
+// The bytes that so many bits need, for any number of bits: a frame has as many positions.
 pub fn bytes_for(bits: u64) -> u64
     ensures { λ r. ⌜ r ≡ bytesFor bits ⌝ }
 {

@@ -9,6 +9,6 @@ use Rattle.sheet.specs.Device.{passed}
 abbrev pub standing : Device → ℕ → ℕ → Device
 standing d pace k = passed d (k * pace)
 
--- of the positions from `first` up to `end` those before `turn` begin while so many busy ticks are not over, and no other
+-- of the positions from `first` up to `end` exactly those before `turn` begin while busy ticks are left
 abbrev pub BusyBefore : ℕ → ℕ → ℕ → ℕ → ℕ → Type 0
 BusyBefore busy pace first end turn = (k : ℕ) → first ≤ k → k < end → ltb 0 (busy - k * pace) ≡ ltb k turn

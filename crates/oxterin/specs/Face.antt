@@ -8,7 +8,7 @@ use lib.ListN.{length}
 use Rattle.settings.specs.Settings.{typical}
 use Rattle.sheet.specs.Device.{fresh}
 use Rattle.status.specs.Status.{statusOne, statusTwo}
-use Rattle.lent.specs.Look.{startIn, lookedAt}
+use Rattle.look.specs.Look.{startIn, lookedAt}
 use Rattle.part.specs.Frame.{Call, Lent, Result, call, frame}
 use Rattle.packing.specs.Packing.{isFlag, flagOf, memoryOf, packed, isRecord, deviceOf, isSettings, settingsOf, isSignals, signalsOf, isAnswer, answerOf}
 

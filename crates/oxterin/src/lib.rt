@@ -2,8 +2,8 @@
 // length, a flag that is neither 0 nor 1, or a mode that does not exist, are answered with 255, and then nothing changes.
 use hexwords::read_text;
 use hexwords::write_text;
-use lent::look::look;
-use lent::look::look_start;
+use look::look;
+use look::look_start;
 use packing::UNREAD;
 use packing::device_of;
 use packing::is_record;

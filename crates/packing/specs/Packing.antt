@@ -10,7 +10,7 @@ use lib.Text.{eqt}
 use Rattle.settings.specs.declared.Settings.{Settings}
 use Rattle.sheet.specs.declared.device.Device.{Device}
 use Rattle.sheet.specs.declared.device.Mode.{Mode}
-use Rattle.lent.specs.declared.look.Memory.{Memory}
+use Rattle.look.specs.declared.Memory.{Memory}
 use Rattle.input.specs.declared.Signals.{Signals}
 use Rattle.part.specs.Frame.{Reply}
 

@@ -1,6 +1,6 @@
 // The words in which record, settings, signals and answer travel to callers that have only numbers and slices.
 use input::Signals;
-use lent::look::Memory;
+use look::Memory;
 use settings::Settings;
 use sheet::device::Device;
 use sheet::device::Mode;

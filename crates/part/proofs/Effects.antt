@@ -1,21 +1,26 @@
 -- A frame takes effect on the array exactly when demand 2 says. Assumes nothing.
 use Prim.Native.Nat.{ℕ}
-use mathlib.Core.Bool.{Bool, true, false, true≢false, false≢true, _&&_}
+use Prim.Native.String.{String}
+use mathlib.Core.Bool.{Bool, true, false, true≢false, false≢true, cond, _&&_}
 use mathlib.Core.List.{List}
 use mathlib.Core.Logic.{_≢_}
 use mathlib.Core.Path.{_≡_, refl, sym, ap, _∙_}
 use lib.Dec.{eqb}
 use lib.ListN.{length, getD}
+use lib.Text.{eqt}
 use Rattle.cells.specs.Each.{each}
 use Rattle.cells.proofs.Places.{each-same}
+use Rattle.opcodes.specs.Rows.{rowOf}
 use Rattle.sheet.specs.declared.judge.Action.{Action}
-use Rattle.sheet.specs.Begins.{changesArray, ready}
+use Rattle.sheet.specs.declared.judge.Outcome.{Outcome}
+use Rattle.sheet.specs.Begins.{changesArray, ready, lasts}
 use Rattle.sheet.proofs.Begins.{exactly-when}
-use Rattle.sheet.proofs.Leaves.{as-asked}
+use Rattle.sheet.proofs.Leaves.{as-asked, full-duration}
 use Rattle.part.specs.Words.{wordOf}
 use Rattle.memory.specs.Operations.{cellOf, onArray}
-use Rattle.part.specs.Frame.{Call, Lent, lengthsOf, numberFor, risen, factsOf, judgedOf, replied, frame}
+use Rattle.part.specs.Frame.{Call, Lent, lengthsOf, numberFor, risen, factsOf, judgedOf, answered, refused, replied, frame}
 use Rattle.part.specs.Effect.{takesEffect, operationOf}
+use Rattle.part.proofs.Answers.{word-tells}
 
 module _ (c : Call) (m : Lent) where
   -- judging begins an operation on the array when the frame is ready
@@ -59,3 +64,16 @@ module _ (c : Call) (m : Lent) where
           let w = as-asked (risen c) (c .settings) (factsOf c) (begins ∙ e) in
           rw t (ap (λ (a : Action). each (cellOf (onArray a (length (m .array)) (c .input))) (m .array)) (w .0), ap wordOf (w .1))
       by false t e = absurd (false≢true e)
+
+  -- what is begun, on whatever memory, takes its full duration from the rise on: neither the ticks elapsed nor the frame's come off it
+  pub begun-lasts : frame c m .reply .outcome ≡ "begun" → frame c m .reply .device .busy ≡ lasts (rowOf (factsOf c .code) .command) (c .settings) (factsOf c)
+  unfolding frame replied judgedOf
+  begun-lasts e = by (eqb (numberFor c (lengthsOf c m)) 0) e
+    where
+      lasts-for : ℕ
+      lasts-for = lasts (rowOf (factsOf c .code) .command) (c .settings) (factsOf c)
+
+      by : (b : Bool) → cond b (answered (judgedOf c)) (refused (numberFor c (lengthsOf c m)) (c .device)) .outcome ≡ "begun"
+          → cond b (answered (judgedOf c)) (refused (numberFor c (lengthsOf c m)) (c .device)) .device .busy ≡ lasts-for
+      by true e = full-duration (risen c) (c .settings) (factsOf c) (word-tells (judgedOf c .outcome) Outcome.Begun e)
+      by false e = absurd (true≢false (ap (λ (w : String). eqt w "nothing") e))

@@ -28,7 +28,7 @@ use Rattle.sheet.specs.declared.judge.Facts.{Facts}
 use Rattle.sheet.specs.declared.judge.Judged.{Judged}
 use Rattle.sheet.specs.declared.judge.Outcome.{Outcome}
 use Rattle.sheet.specs.declared.judge.Action.{Action}
-use Rattle.sheet.specs.Begins.{changesArray, asksFor}
+use Rattle.sheet.specs.Begins.{changesArray, asksFor, lasts}
 use Rattle.sheet.specs.Device.{awake, deep, ultraDeep, isBusy, unsound, latched, dropped, moved, woken, reset}
 use Rattle.sheet.specs.Judging.{quiet, nothing, control, aborted, driven, read, eraseKind, programKind, barred, ordered, carried, obeyed, complete, byOpcode, asleep, onBoundary, judged}
 use Rattle.sheet.proofs.Records.{sound-then, then-sound}
@@ -135,6 +135,47 @@ as-asked d s f = each-kind d s f (Faithful f) (λ o e c. absurd (false≢true c)
     of-work Work.Otp e c = absurd (false≢true c)
     of-work Work.WriteStatus e c = absurd (false≢true c)
     of-work Work.WriteStatusTwo e c = absurd (false≢true c)
+
+-- what is begun takes its full duration, however many ticks the frame itself took
+abbrev isBegun : Outcome → Bool
+isBegun Outcome.Nothing = false
+isBegun Outcome.Read = false
+isBegun Outcome.Control = false
+isBegun Outcome.Aborted = false
+isBegun Outcome.Begun = true
+
+abbrev Lasting : Settings → Facts → Judged → Type 0
+Lasting s f j = isBegun (j .outcome) ≡ true → j .device .busy ≡ lasts (rowOf (f .code) .command) s f
+
+lasting : (d : Device) (s : Settings) (f : Facts) → Lasting s f (judged d s f)
+lasting d s f =
+    each-answer d s f (Lasting s f) none (λ m. none) (λ m. none) none (λ source e. none) (λ order e h. of-order order) (λ work e h b. of-work work e)
+  where
+    none : {A : Type 0} → false ≡ true → A
+    none c = absurd (false≢true c)
+
+    of-order : (order : Order) → Lasting s f (ordered order d f)
+    of-order Enable = none
+    of-order Disable = none
+    of-order DeepPowerDown = none
+    of-order UltraDeepPowerDown = none
+    of-order Resume = none
+    of-order Reset = by (d .rste && eqb (f .second) 0xD0)
+      where
+        by : (b : Bool) → Lasting s f (cond b (control (reset d)) (nothing d))
+        by true = none
+        by false = none
+
+    of-work : (work : Work) → rowOf (f .code) .command ≡ Works work → Lasting s f (carried work d s f)
+    of-work Work.Program e c = rw e
+    of-work (Work.Erase region) e c = rw e
+    of-work Work.Otp e c = rw e
+    of-work Work.WriteStatus e c = rw e
+    of-work Work.WriteStatusTwo e c = none c
+
+pub full-duration : (d : Device) (s : Settings) (f : Facts) → judged d s f .outcome ≡ Outcome.Begun
+    → judged d s f .device .busy ≡ lasts (rowOf (f .code) .command) s f
+full-duration d s f e = lasting d s f (ap isBegun e)
 
 -- a reset touches no memory, carried out or not
 pub reset-still : (d : Device) (s : Settings) (f : Facts) → rowOf (f .code) .command ≡ Orders Reset → judged d s f .action ≡ Action.Still

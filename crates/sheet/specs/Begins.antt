@@ -1,4 +1,5 @@
--- When a frame begins an operation on the array: all that has to hold, in one line. Assumes nothing.
+-- When a frame begins an operation on the array: all that has to hold, in one line; and how long an operation takes. Assumes nothing.
+use Prim.Native.Nat.{ℕ}
 use mathlib.Core.Bool.{Bool, true, false, not, _&&_}
 use lib.Dec.{leb, ltb}
 use Rattle.opcodes.specs.declared.Row.{Row}
@@ -10,7 +11,10 @@ use Rattle.sheet.specs.declared.device.Device.{Device}
 use Rattle.sheet.specs.declared.judge.Action.{Action}
 use Rattle.sheet.specs.declared.judge.Facts.{Facts}
 use Rattle.sheet.specs.Device.{awake}
-use Rattle.sheet.specs.Judging.{onBoundary}
+use Rattle.settings.specs.declared.Kind.{Kind}
+use Rattle.settings.specs.declared.Settings.{Settings}
+use Rattle.settings.specs.Settings.{durationOf}
+use Rattle.sheet.specs.Judging.{onBoundary, eraseKind, programKind}
 
 -- the action programs or erases the array
 abbrev pub changesArray : Action → Bool
@@ -55,3 +59,17 @@ readyByOpcode r d f = meansArray (r .command) && (leb (r .bytes) (f .bytes) && (
 -- and awake, idle at its first bit, with a whole opcode
 abbrev pub ready : Device → Facts → Bool
 ready d f = awake (d .mode) && (not (f .busy) && (not (ltb (f .bits) 8) && readyByOpcode (rowOf (f .code)) d f))
+
+-- how many ticks the operation of an opcode takes, from the rise of its frame on; none, of an opcode that begins none
+abbrev pub workLasts : Work → Settings → Facts → ℕ
+workLasts Work.Program s f = durationOf s (programKind f)
+workLasts (Work.Erase region) s f = durationOf s (eraseKind region)
+workLasts Work.Otp s f = durationOf s Kind.OtpProgram
+workLasts Work.WriteStatus s f = durationOf s Kind.StatusWrite
+workLasts Work.WriteStatusTwo s f = 0
+
+abbrev pub lasts : Command → Settings → Facts → ℕ
+lasts Unlisted s f = 0
+lasts (Reads source) s f = 0
+lasts (Orders order) s f = 0
+lasts (Works work) s f = workLasts work s f

@@ -1,7 +1,9 @@
 -- Frames that take time, worked by hand: at 8 ticks a position, position 1 begins 8 ticks after the frame's first bit, position 2 begins 16,
 -- position 3 begins 24 ticks after it. Assumes nothing.
-use mathlib.Core.Bool.{true, false}
+use Prim.Native.Nat.{ℕ}
+use mathlib.Core.Bool.{Bool, true, false}
 use mathlib.Core.List.{List, [], _∷_}
+use Rattle.sheet.specs.declared.device.Device.{Device}
 use Rattle.sheet.specs.declared.device.Mode.the-variants.{Awake}
 use Rattle.worked.specs.Worked.{Sent, Row}
 use Rattle.worked.specs.Words.{idle, enabled, busy, clocked, whole, low, paced, came, quiet, refused, _⇒_, piece, row}
@@ -18,7 +20,7 @@ falls-in-byte-one = row (busy 20) 0xFF ((poll ⇒ came "read" 1 5 idle (0xFF ∷
 abbrev falls-in-byte-two : Row
 falls-in-byte-two = row (busy 12) 0xFF ((poll ⇒ came "read" 1 5 idle (0xFF ∷ 0x11 ∷ 0x00 ∷ 0x10 ∷ 0x00 ∷ 0x10 ∷ [])) ∷ []) []
 
--- 16 ticks left: none is at the very first bit of position 2; with one more tick one is
+-- 16 ticks left: none is left at the very first bit of position 2; with one tick more, one is
 abbrev falls-at-the-first-bit : Row
 falls-at-the-first-bit = row (busy 16) 0xFF ((poll ⇒ came "read" 1 5 idle (0xFF ∷ 0x11 ∷ 0x00 ∷ 0x10 ∷ 0x00 ∷ 0x10 ∷ [])) ∷ []) []
 
@@ -35,14 +37,14 @@ does-not-fall =
     [])
     []
 
--- nothing else moves: BPL, BP0 and RSTE are shown as they stand, and WP low
+-- a record in which BPL, BP0, WEL and RSTE are up
+abbrev all-up : ℕ → Device
+all-up busy = record { bpl = true; bp0 = true; wel = true; rste = true; used = false; mode = Awake; busy = busy }
+
+-- nothing else moves: these four are shown as they stand, with WP low, at 8 and 16 ticks busy, at 24 not
 abbrev others-stand : Row
 others-stand =
-    row (record { bpl = true; bp0 = true; wel = false; rste = true; used = false; mode = Awake; busy = 12 }) 0xFF
-    ((paced 8 (low (0x05 ∷ 0x00 ∷ 0x00 ∷ 0x00 ∷ []) 0) ⇒
-    came "read" 1 3 (record { bpl = true; bp0 = true; wel = false; rste = true; used = false; mode = Awake; busy = 0 }) (0xFF ∷ 0x85 ∷ 0x10 ∷ 0x84 ∷ [])) ∷
-    [])
-    []
+    row (all-up 20) 0xFF ((paced 8 (low (0x05 ∷ 0x00 ∷ 0x00 ∷ 0x00 ∷ []) 0) ⇒ came "read" 1 3 (all-up 0) (0xFF ∷ 0x87 ∷ 0x11 ∷ 0x86 ∷ [])) ∷ []) []
 
 -- a partial last byte counts as a position, a single bit too; a frame of no bits takes no ticks
 abbrev positions : Row
@@ -75,18 +77,23 @@ begins-at-the-rise =
     [])
     (piece 0 1 0x5A ∷ [])
 
--- a reset acts at the rise; one that is not confirmed takes its ticks and no more
+-- a record in which RSTE is up, and WEL as said
+abbrev resettable : Bool → ℕ → Device
+resettable wel busy = record { bpl = false; bp0 = false; wel = wel; rste = true; used = false; mode = Awake; busy = busy }
+
+-- a reset leaves the part idle and WEL 0; one that is not confirmed takes its ticks and no more
 abbrev resets : Row
 resets =
-    row (record { bpl = false; bp0 = false; wel = false; rste = true; used = false; mode = Awake; busy = 100 }) 0xFF
-    ((paced 8 (whole (0xF0 ∷ 0xD1 ∷ []) 0) ⇒ quiet "nothing" (record { bpl = false; bp0 = false; wel = false; rste = true; used = false; mode = Awake; busy = 84 }) 2) ∷
-    (paced 8 (whole (0xF0 ∷ 0xD0 ∷ []) 0) ⇒ quiet "control" (record { bpl = false; bp0 = false; wel = false; rste = true; used = false; mode = Awake; busy = 0 }) 2) ∷
+    row (resettable true 100) 0xFF
+    ((paced 8 (whole (0xF0 ∷ 0xD1 ∷ []) 0) ⇒ quiet "nothing" (resettable true 84) 2) ∷
+    (paced 8 (whole (0xF0 ∷ 0xD0 ∷ []) 0) ⇒ quiet "control" (resettable false 0) 2) ∷
     [])
     []
 
--- refusal 8: 1,000 ticks a position are accepted, 1,001 are not, and then neither number counts; a sum of the two could not be held
-abbrev refusals : Row
-refusals =
+-- refusal 8: 1,001 ticks a position are refused, and then neither number counts; 1,000 are accepted, also with 2^64 - 1 ticks elapsed, where
+-- the sum of the two would not fit 64 bits
+abbrev eight : Row
+eight =
     row (busy 5000) 0xFF
     ((paced 1001 (whole (0x05 ∷ 0x00 ∷ []) 7) ⇒ refused 8 (busy 5000) 2) ∷
     (paced 1000 (whole (0x05 ∷ 0x00 ∷ []) 7) ⇒ came "read" 1 1 (busy 2993) (0xFF ∷ 0x11 ∷ [])) ∷
@@ -110,4 +117,4 @@ seven-first =
 unfoldable pub polls : List Row
 polls =
     falls-in-byte-one ∷ falls-in-byte-two ∷ falls-at-the-first-bit ∷ one-tick-more ∷ does-not-fall ∷ others-stand ∷ positions ∷ ignored ∷ heard ∷
-    begins-at-the-rise ∷ resets ∷ refusals ∷ seven-first ∷ []
+    begins-at-the-rise ∷ resets ∷ eight ∷ seven-first ∷ []

@@ -105,7 +105,7 @@ impl Refusal {
         Refusal::TicksPerByte,
     ];
 
-    /// Its number in document 01.
+    /// Its number.
     #[must_use]
     pub fn number(self) -> u8 {
         self as u8

@@ -1,4 +1,4 @@
--- `lent::look::part` meets its contract: the reduced address is a place of the memory, and the part ends where the memory does at the
+-- `look::part` meets its contract: the reduced address is a place of the memory, and the part ends where the memory does at the
 -- latest. Assumes nothing.
 use Prim.Native.Nat.{_+_, _-_, _%_, _<_, _≤_, min}
 use mathlib.Core.Path.{_≡_}
@@ -6,8 +6,8 @@ use native.Mathlib.Nat.{mod-lt, zero-add}
 use native.Mathlib.Omega.{arith}
 use borrow.Author.Needs.{needs}
 use lib.ListN.{length}
-use Rattle.lent.proofs.look.part.Statement.{statement}
-use Rattle.lent.proofs.look.part.Tie as tie
+use Rattle.look.proofs.part.Statement.{statement}
+use Rattle.look.proofs.part.Tie as tie
 
 nonempty : (c : tie.Then1) → 0 < length (c .before .args .memory .now)
 nonempty c = c .before .pre (c .if1 .taken)

@@ -3,9 +3,8 @@ use Prim.Native.Nat.{ℕ, _+_, _-_, _%_, min}
 use mathlib.Core.Bool.{cond}
 use mathlib.Core.List.{List, []}
 use lib.ListN.{length, take, drop}
-use Rattle.lent.specs.declared.look.Memory.{Memory}
-use Rattle.sizes.specs.Sizes.{isArray}
-use Rattle.lent.specs.Refusal.{isRegister}
+use Rattle.look.specs.declared.Memory.{Memory}
+use Rattle.sizes.specs.Sizes.{isArray, isRegister}
 
 -- where the part begins: address bits above the memory's size are ignored
 abbrev pub startOf : List ℕ → ℕ → ℕ

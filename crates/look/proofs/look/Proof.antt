@@ -1,12 +1,12 @@
--- `lent::look::look` meets its contract: a memory of the right length is not empty. Assumes nothing.
+-- `look::look` meets its contract: a memory of the right length is not empty. Assumes nothing.
 use mathlib.Core.Path.{_≡_, sym, _∙_}
 use native.Mathlib.Omega.{arith}
 use borrow.Author.Needs.{needs}
 use lib.ListN.{length}
 use Rattle.sizes.proofs.Long.{array-long}
-use Rattle.lent.proofs.Lengths.{register-long}
-use Rattle.lent.proofs.look.look.Statement.{statement}
-use Rattle.lent.proofs.look.look.Tie as tie
+use Rattle.sizes.proofs.Long.{register-long}
+use Rattle.look.proofs.look.Statement.{statement}
+use Rattle.look.proofs.look.Tie as tie
 
 part-requires : tie.Need-part-requires
 part-requires c κs e = array-long _ (sym (c .is-array .ensures) ∙ e) .0

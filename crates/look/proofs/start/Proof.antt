@@ -1,7 +1,7 @@
--- `lent::look::start` meets its contract: a right length is no zero divisor. Assumes nothing.
+-- `look::start` meets its contract: a right length is no zero divisor. Assumes nothing.
 use borrow.Author.Needs.{needs}
-use Rattle.lent.proofs.look.start.Statement.{statement}
-use Rattle.lent.proofs.look.start.Tie as tie
+use Rattle.look.proofs.start.Statement.{statement}
+use Rattle.look.proofs.start.Tie as tie
 
 rem-result : tie.Need-rem-result
 rem-result c = c .before .pre (c .if1 .taken)

@@ -1,11 +1,11 @@
--- `lent::look::look_start` meets its contract: a memory of the right length is not empty. Assumes nothing.
+-- `look::look_start` meets its contract: a memory of the right length is not empty. Assumes nothing.
 use mathlib.Core.Path.{_≡_, sym, _∙_}
 use native.Mathlib.Omega.{arith}
 use borrow.Author.Needs.{needs}
 use Rattle.sizes.proofs.Long.{array-long}
-use Rattle.lent.proofs.Lengths.{register-long}
-use Rattle.lent.proofs.look.look_start.Statement.{statement}
-use Rattle.lent.proofs.look.look_start.Tie as tie
+use Rattle.sizes.proofs.Long.{register-long}
+use Rattle.look.proofs.look_start.Statement.{statement}
+use Rattle.look.proofs.look_start.Tie as tie
 
 start-requires : tie.Need-start-requires
 start-requires c κs e = array-long _ (sym (c .is-array .ensures) ∙ e) .0

@@ -1,12 +1,12 @@
-// A look at a lent memory without a frame.
-use crate::refusal::is_register;
+// A look at a lent memory without a frame. Only lengths are seen here, never a byte.
 use sizes::is_array;
+use sizes::is_register;
 ghost use mathlib.Core.Bool.{true, cond};
 ghost use mathlib.Core.List.{[]};
 ghost use mathlib.Core.Path.{_≡_};
 ghost use Prim.Native.Nat.{_%_, _<_};
 ghost use lib.ListN.{length};
-ghost use Rattle.lent.specs.Look.{startOf, partOf, startIn, behind, lookedAt, lookedFrom};
+ghost use Rattle.look.specs.Look.{startOf, partOf, startIn, behind, lookedAt, lookedFrom};
 ghost use denote.Ref.{ptr};
 
 // Which of the lent memories.
