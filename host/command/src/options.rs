@@ -82,13 +82,14 @@ pub const PART_HELP: &str = "  --size BYTES        131072 (default) or 65536; an
   --otp-used          the first record has its one-time-programmable bytes used up
 ";
 
-/// A number in decimal, with or without commas or underscores between its digits.
+/// A number in decimal, with or without commas or underscores between its thousands.
 pub fn number(text: &str) -> Option<u64> {
-    if !text.starts_with(|c: char| c.is_ascii_digit()) {
-        return None;
-    }
-    let digits: String = text.chars().filter(|c| !matches!(c, ',' | '_')).collect();
-    digits.parse().ok()
+    let groups: Vec<&str> = text.split([',', '_']).collect();
+    let thousands = &groups[1..];
+    let grouped = thousands.is_empty() || groups[0].len() <= 3 && thousands.iter().all(|group| group.len() == 3);
+    let digits = groups.concat();
+    let decimal = !groups[0].is_empty() && digits.bytes().all(|byte| byte.is_ascii_digit());
+    (grouped && decimal).then(|| digits.parse().ok())?
 }
 
 /// `--size BYTES`: the size of the array, if it is said.

@@ -159,7 +159,8 @@ fn read(line: &[u8], unsaid: Unsaid) -> Result<Option<Frame>, Fault> {
             let remedy = "behind + stands the number of ticks elapsed, up to 2^64 - 1, such as +2000";
             set_once(&mut elapsed, number(ticks).ok_or_else(|| word.fault(remedy))?, word)?;
         } else if let Some(ticks) = word.text.strip_prefix('@') {
-            let remedy = "behind @ stands the number of ticks that each byte takes, at most 1,000, such as @8";
+            let remedy =
+                "behind @ stands, with no blank between, the number of ticks that each byte takes, at most 1,000 (refusal 8), such as @8";
             set_once(&mut each, byte_ticks(ticks).ok_or_else(|| word.fault(remedy))?, word)?;
         } else if let Some(name) = word.text.strip_prefix("wp=") {
             set_once(
@@ -327,6 +328,8 @@ mod tests {
         assert_eq!(column("06 @"), 4);
         assert_eq!(column("06 @x"), 4);
         assert_eq!(column("06 @1001"), 4);
+        assert_eq!(column("06 @2,5"), 4);
+        assert_eq!(column("06 @8,"), 4);
         assert_eq!(column("06 @8 @8"), 7);
         assert_eq!(column("06\r05"), 3);
         assert_eq!(read(b"06 \xFF", PLAIN).unwrap_err().0, 4);

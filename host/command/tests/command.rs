@@ -109,8 +109,8 @@ fn ticks_of_a_byte_that_are_too_many_name_their_place() {
     let output = oxterin(&["run"], "06 @1000\n05 00 @1001\n");
     assert_eq!(
         complained(&output),
-        "oxterin: standard input, line 2, column 7: @1001: behind @ stands the number of ticks that each byte takes, \
-         at most 1,000, such as @8\n"
+        "oxterin: standard input, line 2, column 7: @1001: behind @ stands, with no blank between, the number of ticks \
+         that each byte takes, at most 1,000 (refusal 8), such as @8\n"
     );
     assert_eq!(said(&output), "06 > FF ST 12\n");
 }
