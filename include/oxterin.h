@@ -241,9 +241,9 @@ static inline oxterin_part oxterin_look_at(const uint8_t *array, size_t array_le
 /* One chip-select frame. The record becomes what the part then remembers, and of the output the first input_length bytes are written.
  * The answer says what became of the frame. After a refused call it says nothing, 0 and 0, and all else is as it was.
  *
- * Position k, counted from 0, begins k * ticks_per_byte ticks after the frame's first bit. Each status byte of 05h shows busy as at the
- * first bit of its own position; whether the part is too busy to hear the frame is settled at the frame's first bit, and an operation that
- * the frame begins starts at the rise of chip select. */
+ * Position k, counted from 0, begins k * ticks_per_byte ticks after the frame's first bit, and a status byte of 05h says what busy is at that
+ * moment. Whether the part is too busy to hear the frame is settled at the frame's first bit, and an operation that the frame begins starts
+ * at the rise of chip select. */
 static inline oxterin_refusal oxterin_send_frame(oxterin_record *record, const oxterin_settings *settings, oxterin_signals signals,
                                                  uint8_t *array, size_t array_length, uint8_t *security, size_t security_length,
                                                  const uint8_t *input, size_t input_length, uint8_t *output, size_t output_length,

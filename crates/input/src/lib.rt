@@ -4,8 +4,8 @@ ghost use Prim.Native.Nat.{_<_};
 ghost use lib.ListN.{getD};
 ghost use Rattle.input.specs.Address.{addressOf};
 
-// The bits clocked, whether WP is high for the whole frame, the ticks elapsed since the call before, and the ticks that each byte position
-// of the frame takes, a partial last one too.
+// How many bits are clocked, whether WP is high from the first to the last of them, how many ticks came between the last call and this one,
+// and how many each byte position takes, whole or not.
 pub struct Signals {
     pub bits: u64,
     pub wp: bool,

@@ -46,7 +46,7 @@ abbrev others-stand : Row
 others-stand =
     row (all-up 20) 0xFF ((paced 8 (low (0x05 ∷ 0x00 ∷ 0x00 ∷ 0x00 ∷ []) 0) ⇒ came "read" 1 3 (all-up 0) (0xFF ∷ 0x87 ∷ 0x11 ∷ 0x86 ∷ [])) ∷ []) []
 
--- a partial last byte counts as a position, a single bit too; a frame of no bits takes no ticks
+-- a byte of which some bits are clocked is a position too, be it a single bit; a frame of no bits takes no ticks
 abbrev positions : Row
 positions =
     row (busy 100) 0xFF

@@ -33,7 +33,7 @@ impl Signals {
     }
 
     /// These signals with each byte position taking so many ticks. Position k, counted from 0, begins k times as many after the frame's
-    /// first bit, and a status byte shows busy as at the first bit of its position. So a poll with chip select held low sees busy fall:
+    /// first bit, and a status byte says what busy is at that moment. So a poll with chip select held low sees it fall:
     ///
     /// ```
     /// use oxterin::{Part, Signals, Size};
