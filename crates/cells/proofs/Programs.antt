@@ -6,34 +6,15 @@ use mathlib.Core.Path.{_≡_, refl, sym, ap, _∙_}
 use native.Mathlib.Decide.{ℕ-discrete}
 use native.Mathlib.Nat.{add-zero, add-suc, add-assoc, not-suc-le-zero, mod-lt, mod-eq-of-lt, mod-add-mod, add-mod-mod, add-mod-right}
 use native.Mathlib.Omega.{arith}
-use borrow.Author.Tests.{eq-eqb, ne-eqb}
+use borrow.Author.Tests.{eq-eqb}
 use lib.Bits.{bitAnd, and-mask}
-use lib.ListN.{length, getD, set, drop, replicate, length-replicate, getD-replicate}
+use lib.ListN.{length, getD, drop, replicate, length-replicate, getD-replicate}
 use lib.Seq.{getD-drop}
 use Rattle.cells.specs.Each.{each, over}
 use Rattle.cells.specs.Range.{range}
 use Rattle.cells.specs.Page.{aims, covered, last, loaded, andedIn, programmed}
-use Rattle.cells.proofs.Places.{each-alike, each-set, getD-each, is-each, length-each}
+use Rattle.cells.proofs.Places.{each-alike, getD-each, length-each}
 use Rattle.cells.proofs.Runs.{range-of}
-
--- a store of the source's byte i at the next wrapped offset loads one data byte more
-pub loads-on : (size start from : ℕ) (source : List ℕ) (i : ℕ) (xs : List ℕ) → from ≤ i → (start + (i - from)) % size < length xs
-    → set (each (last size start (drop from source) (i - from)) xs) ((start + (i - from)) % size) (getD source i 0)
-    ≡ each (last size start (drop from source) (i + 1 - from)) xs
-unfolding last
-loads-on size start from source i xs p l =
-    let more : i + 1 - from ≡ suc (i - from) = omega arith in
-    let back : from + (i - from) ≡ i = omega arith in
-    rw more
-    (each-set (last size start (drop from source) (i - from)) (last size start (drop from source) (suc (i - from))) xs
-    ((start + (i - from)) % size) (getD source i 0) l
-    (rw (eq-eqb ((start + (i - from)) % size) ((start + (i - from)) % size) refl, getD-drop from source (i - from) 0, back))
-    (λ k d. rw (ne-eqb ((start + (i - from)) % size) k (λ e. d (sym e)))))
-
--- with nothing loaded yet the buffer is as it was
-pub none-loaded : (size start : ℕ) (sent : List ℕ) (n : ℕ) (xs : List ℕ) → n ≡ 0 → xs ≡ each (last size start sent n) xs
-unfolding last
-none-loaded size start sent n xs e = rw e (is-each (last size start sent 0) xs xs refl (λ k l. refl))
 
 neither : (s t : Bool) → (s || t) ≡ false → (s ≡ false) × (t ≡ false)
 neither true t e = absurd (true≢false e)
@@ -97,7 +78,7 @@ last-covered size start sent (suc n) p x y e = by (aims size start n p) (last-co
     by true ih c = refl
     by false ih c = ih c
 
-covered-at : (size start n j : ℕ) → j < n → covered size start n ((start + j) % size) ≡ true
+pub covered-at : (size start n j : ℕ) → j < n → covered size start n ((start + j) % size) ≡ true
 unfolding covered
 covered-at size start zero j l = absurd (not-suc-le-zero l)
 covered-at size start (suc n) j l = by (ℕ-discrete j n) (covered-at size start n j)

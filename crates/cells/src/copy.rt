@@ -1,6 +1,7 @@
 // Copying out of a memory, in straight runs.
+use crate::lesser;
 ghost use mathlib.Core.Path.{_≡_};
-ghost use Prim.Native.Nat.{_+_, _-_, _≤_, _<_, min};
+ghost use Prim.Native.Nat.{_+_, _-_, _≤_, _<_};
 ghost use lib.ListN.{length};
 ghost use Rattle.cells.specs.Each.{each};
 ghost use Rattle.cells.specs.Range.{copied, run};
@@ -15,13 +16,6 @@ fn copy_run(output: &mut [u8], from: usize, to: usize, memory: &[u8], start: usi
         output[i] = memory[start + (i - from)];
         i += 1;
     }
-}
-
-// The lesser of two numbers.
-fn lesser(a: usize, b: usize) -> usize
-    ensures { λ r. ⌜ r ≡ min a b ⌝ }
-{
-    if a < b { a } else { b }
 }
 
 // The output from `from` up to `to` receives the memory from `start` on; past its last byte it goes on at 0.

@@ -29,9 +29,12 @@ fn wide(byte: u8) -> usize
     byte as usize
 }
 
-// The three bytes behind the opcode, high first.
+// The three bytes behind the opcode, high first; of a frame that has them all, each is read as it is.
 pub fn address_of(input: &[u8]) -> usize
     ensures { λ r. ⌜ r ≡ addressOf (now (input .entry)) ⌝ }
 {
-    wide(byte_at(input, 1)) * 65536 + wide(byte_at(input, 2)) * 256 + wide(byte_at(input, 3))
+    if input.len() < 4 {
+        return wide(byte_at(input, 1)) * 65536 + wide(byte_at(input, 2)) * 256;
+    }
+    wide(input[1]) * 65536 + wide(input[2]) * 256 + wide(input[3])
 }

@@ -1,9 +1,9 @@
 // The operations of a frame on the array and the register. It stands below the part and requires the right lengths.
-use cells::page::program_page;
-use cells::page::program_register;
 use cells::range::fill;
+use cells::wrapped;
 use input::address_of;
 use opcodes::Region;
+use pages::program_page;
 use sheet::judge::Action;
 ghost use mathlib.Core.Path.{_≡_};
 ghost use Prim.Native.Nat.{_<_, _%_};
@@ -16,8 +16,8 @@ fn program(array: &mut [u8], input: &[u8])
     requires { ⌜ (0 < length (now array)) × (length (now array) % 65536 ≡ 0) ⌝ }
     ensures { λ _. ⌜ now (array .exit) ≡ each (cellOf (onArray Action.Program (length (now (array .entry))) (now (input .entry)))) (now (array .entry)) ⌝ }
 {
-    let place = address_of(input) % array.len();
-    program_page(array, place / 256 * 256, place % 256, input, 4);
+    let place = wrapped(address_of(input), array.len());
+    program_page(array, 256, place / 256 * 256, place % 256, input, 4);
 }
 
 // Programs the user's bytes of the register.
@@ -25,7 +25,7 @@ fn program_once(register: &mut [u8], input: &[u8])
     requires { ⌜ length (now register) ≡ 128 ⌝ }
     ensures { λ _. ⌜ now (register .exit) ≡ each (cellOf (onRegister Action.Otp (now (input .entry)))) (now (register .entry)) ⌝ }
 {
-    program_register(register, address_of(input) % 64, input, 4);
+    program_page(register, 64, 0, address_of(input) % 64, input, 4);
 }
 
 // How many bytes a region has, in an array of that size.
@@ -46,7 +46,7 @@ fn erase(array: &mut [u8], region: Region, input: &[u8])
     ensures { λ _. ⌜ now (array .exit) ≡ each (cellOf (onArray (Action.Erase region) (length (now (array .entry))) (now (input .entry)))) (now (array .entry)) ⌝ }
 {
     let size = array.len();
-    let place = address_of(input) % size;
+    let place = wrapped(address_of(input), size);
     let width = width_of(region, size);
     let from = place / width * width;
     fill(array, from, from + width, 255);

@@ -1,6 +1,7 @@
 // What the output positions of a frame read. It stands below the part and requires the right lengths.
 use cells::copy::copy_out;
 use cells::range::fill;
+use cells::wrapped;
 use input::Signals;
 use input::address_of;
 use opcodes::Source;
@@ -72,13 +73,19 @@ fn send(
         ⌝ }
 {
     match source {
-        Source::Array => copy_out(output, first, end, array, address_of(input) % array.len()),
+        Source::Array => copy_out(
+            output,
+            first,
+            end,
+            array,
+            wrapped(address_of(input), array.len()),
+        ),
         Source::Register => copy_out(
             output,
             first,
             end,
             register,
-            address_of(input) % register.len(),
+            wrapped(address_of(input), register.len()),
         ),
         Source::Status => send_status(device, signals, first, end, output),
         Source::Identity => {

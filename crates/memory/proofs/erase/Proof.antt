@@ -1,6 +1,5 @@
 -- `memory::erase` meets its contract: the block around the reduced address lies in the array. Assumes nothing.
-use Prim.Native.Nat.{_+_, _*_, _/_, _%_, _<_, _≤_}
-use native.Mathlib.Nat.{mod-lt}
+use Prim.Native.Nat.{_+_, _*_, _/_, _<_, _≤_}
 use native.Mathlib.Omega.{arith}
 use borrow.Author.Needs.{needs}
 use lib.ListN.{length}
@@ -10,13 +9,12 @@ use Rattle.memory.proofs.erase.Tie as tie
 
 inside : (c : tie.After-width-of)
     → (0 < c .width-of .result)
-    × (c .before .address-of .result % length (c .before .before .before .before .args .array .now) / c .width-of .result * c .width-of .result + c .width-of .result
-    ≤ length (c .before .before .before .before .args .array .now))
+    × (c .before .wrapped .result / c .width-of .result * c .width-of .result + c .width-of .result ≤ length (c .before .before .before .before .before .args .array .now))
 inside c =
-    let start = c .before .before .before .before in
-    let size = length (start .args .array .now) in
+    let start = c .before .before .before .before .before in
     rw (c .width-of .ensures)
-    (block-inside (start .args .region) size (c .before .address-of .result % size) (start .pre .0) (start .pre .1) (mod-lt _ (start .pre .0)))
+    (block-inside (start .args .region) (length (start .args .array .now)) (c .before .wrapped .result) (start .pre .0) (start .pre .1)
+    (c .before .wrapped .ensures .1))
 
 div-from : tie.Need-div-from
 div-from c = inside c .0
@@ -31,14 +29,15 @@ fill-requires : tie.Need-fill-requires
 fill-requires c κs = (omega arith, inside (c .before) .1)
 
 returns : tie.Need-returns
-returns c = rw (c .before .before .fill .ensures, c .before .before .before .before .width-of .ensures, c .before .before .before .before .before .address-of .ensures)
+returns c =
+    rw (c .before .before .fill .ensures, c .before .before .before .before .width-of .ensures, c .before .before .before .before .before .wrapped .ensures .0, c .before .before .before .before .before .before .address-of .ensures)
 
 pub erase-spec : {M : Type 1} → statement M
 erase-spec =
     tie.close
     (tie.spec
     (λ c κs. search needs)
-    (λ c. search needs)
+    (λ c κs. search needs)
     (λ c κs. search needs)
     div-from
     mul-from

@@ -4,7 +4,7 @@ use Rattle.memory.proofs.program_once.Statement.{statement}
 use Rattle.memory.proofs.program_once.Tie as tie
 
 returns : tie.Need-returns
-returns c = rw (c .before .before .program-register .ensures, c .before .before .before .address-of .ensures)
+returns c = rw (c .before .before .program-page .ensures, c .before .before .before .address-of .ensures)
 
 pub program-once-spec : {M : Type 1} → statement M
 program-once-spec =

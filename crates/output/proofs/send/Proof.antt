@@ -1,28 +1,21 @@
 -- `output::send` meets its contract: each source but the status is a memory that is copied out, from an address or from its first
 -- byte. Assumes nothing.
-use native.Mathlib.Nat.{mod-lt}
 use borrow.Author.Needs.{needs}
 use Rattle.input.specs.Address.{addressOf}
 use Rattle.output.proofs.Lines.{from-address}
 use Rattle.output.proofs.send.Statement.{statement}
 use Rattle.output.proofs.send.Tie as tie
 
-copy-out-requires : tie.Need-copy-out-requires
-copy-out-requires c κs = (search needs, search needs, mod-lt _ (c .before .before .before .before .before .before .before .before .pre .0))
-
-copy-out-requires-2 : tie.Need-copy-out-requires-2
-copy-out-requires-2 c κs = (search needs, search needs, mod-lt _ (c .before .before .before .before .before .before .before .before .pre .1))
-
 returns : tie.Need-returns
 returns c =
-    let a = c .before .before .before .before .before .before .before .before .before .before .before .args in
-    rw (c .before .before .before .before .before .enum-told .given .1, c .before .before .copy-out .ensures, c .before .before .before .address-of .ensures)
+    let a = c .before .before .before .before .before .before .before .before .before .before .before .before .args in
+    rw (c .before .before .before .before .before .before .enum-told .given .1, c .before .before .copy-out .ensures, c .before .before .before .wrapped .ensures .0, c .before .before .before .before .address-of .ensures)
     (from-address (a .array .now) (addressOf (a .input .now)) (a .first) (a .end) (a .output .now))
 
 returns-2 : tie.Need-returns-2
 returns-2 c =
-    let a = c .before .before .before .before .before .before .before .before .before .before .before .args in
-    rw (c .before .before .before .before .before .enum-told2 .given .1, c .before .before .copy-out2 .ensures, c .before .before .before .address-of2 .ensures)
+    let a = c .before .before .before .before .before .before .before .before .before .before .before .before .args in
+    rw (c .before .before .before .before .before .before .enum-told2 .given .1, c .before .before .copy-out2 .ensures, c .before .before .before .wrapped2 .ensures .0, c .before .before .before .before .address-of2 .ensures)
     (from-address (a .register .now) (addressOf (a .input .now)) (a .first) (a .end) (a .output .now))
 
 returns-3 : tie.Need-returns-3
@@ -40,12 +33,12 @@ send-spec =
     (tie.spec
     (λ c. search needs)
     (λ c κs. search needs)
-    (λ c. search needs)
-    copy-out-requires
-    (λ c. search needs)
+    (λ c κs. search needs)
     (λ c κs. search needs)
     (λ c. search needs)
-    copy-out-requires-2
+    (λ c κs. search needs)
+    (λ c κs. search needs)
+    (λ c κs. search needs)
     (λ c. search needs)
     (λ c κs. search needs)
     (λ c. search needs)

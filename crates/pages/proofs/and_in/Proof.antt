@@ -1,11 +1,11 @@
--- `cells::page::and_in` meets its contract: each turn ANDs one byte more, read as it was. Assumes nothing.
+-- `pages::and_in` meets its contract: each turn ANDs one byte more, read as it was. Assumes nothing.
 use Prim.Native.Nat.{_-_}
 use native.Mathlib.Omega.{arith}
 use lib.Bits.{bitAnd}
 use lib.ListN.{getD}
 use Rattle.cells.proofs.Runs.{Reached, begins, same-long, next-read, goes-on, ends}
-use Rattle.cells.proofs.page.and_in.Statement.{statement}
-use Rattle.cells.proofs.page.and_in.Tie as tie
+use Rattle.pages.proofs.and_in.Statement.{statement}
+use Rattle.pages.proofs.and_in.Tie as tie
 
 abbrev Inv-loop : tie.InvT-loop
 Inv-loop memory₀ at buffer end i₀ memory i = Reached (λ k x. bitAnd x (getD buffer (k - at) 0)) at end memory₀ i memory

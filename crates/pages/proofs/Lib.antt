@@ -1,0 +1,3 @@
+pub mod Aims
+mod Pieces
+pub mod Ways

@@ -1,0 +1,83 @@
+// Programming: of the data the last bytes count, as many as the page has, and each is ANDed at the one place that it aims at.
+use cells::lesser;
+use cells::wrapped;
+ghost use mathlib.Core.Path.{_≡_};
+ghost use Prim.Native.Nat.{_+_, _≤_, _<_};
+ghost use lib.ListN.{length, drop};
+ghost use Rattle.cells.specs.Each.{each};
+ghost use Rattle.cells.specs.Page.{andedIn, programmed};
+
+// The buffer is ANDed into the memory from `at` on.
+fn and_in(memory: &mut [u8], at: usize, buffer: &[u8])
+    requires { ⌜ at + length (now buffer) ≤ length (now memory) ⌝ }
+    ensures { λ _. ⌜ now (memory .exit) ≡ each (andedIn at (now (buffer .entry))) (now (memory .entry)) ⌝ }
+{
+    let end = at + buffer.len();
+    let mut i = at;
+    while i < end {
+        memory[i] = memory[i] & buffer[i - at];
+        i += 1;
+    }
+}
+
+// The same for four bytes, without a loop: most programs have four.
+fn and_four(memory: &mut [u8], at: usize, buffer: &[u8])
+    requires { ⌜ (at + 4 ≤ length (now memory)) × (length (now buffer) ≡ 4) ⌝ }
+    ensures { λ _. ⌜ now (memory .exit) ≡ each (andedIn at (now (buffer .entry))) (now (memory .entry)) ⌝ }
+{
+    let a = memory[at] & buffer[0];
+    let b = memory[at + 1] & buffer[1];
+    let c = memory[at + 2] & buffer[2];
+    let d = memory[at + 3] & buffer[3];
+    memory[at] = a;
+    memory[at + 1] = b;
+    memory[at + 2] = c;
+    memory[at + 3] = d;
+}
+
+// The same for any number of bytes, by whichever is the shorter way.
+fn and_run(memory: &mut [u8], at: usize, buffer: &[u8])
+    requires { ⌜ at + length (now buffer) ≤ length (now memory) ⌝ }
+    ensures { λ _. ⌜ now (memory .exit) ≡ each (andedIn at (now (buffer .entry))) (now (memory .entry)) ⌝ }
+{
+    if buffer.len() == 4 {
+        and_four(memory, at, buffer);
+        return;
+    }
+    and_in(memory, at, buffer);
+}
+
+// Data that goes past the page's end: of it the last `size` bytes count. One run of them goes up to the page's end, and what is left
+// goes on at its beginning.
+fn program_around(memory: &mut [u8], size: usize, page: usize, start: usize, sent: &[u8])
+    requires { ⌜ (page + size ≤ length (now memory)) × (start < size) ⌝ }
+    ensures { λ _. ⌜ now (memory .exit) ≡ each (programmed size page start (now (sent .entry))) (now (memory .entry)) ⌝ }
+{
+    let count = lesser(sent.len(), size);
+    let skipped = sent.len() - count;
+    let offset = wrapped(start + skipped, size);
+    let turn = skipped + lesser(count, size - offset);
+    and_in(memory, page + offset, &sent[skipped..turn]);
+    and_in(memory, page, &sent[turn..]);
+}
+
+// Programs the page of `size` bytes at `page` with the source from `from` on, the first byte at the offset `start`. Data that does not
+// reach the page's end is one run.
+pub fn program_page(
+    memory: &mut [u8],
+    size: usize,
+    page: usize,
+    start: usize,
+    source: &[u8],
+    from: usize,
+)
+    requires { ⌜ (page + size ≤ length (now memory)) × (start < size) ⌝ }
+    ensures { λ _. ⌜ now (memory .exit) ≡ each (programmed size page start (drop from (now (source .entry)))) (now (memory .entry)) ⌝ }
+{
+    let sent = &source[lesser(from, source.len())..];
+    if sent.len() <= size - start {
+        and_run(memory, page + start, sent);
+        return;
+    }
+    program_around(memory, size, page, start, sent);
+}
