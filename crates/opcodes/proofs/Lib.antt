@@ -1,3 +1,4 @@
 pub mod Search
+mod Spelling
 mod Lookup
 pub mod Table

@@ -1,6 +1,13 @@
 // The opcodes of the AT25XE011: a row of fixed facts for each listed one, kept as a constant table, and looking one up.
 ghost use mathlib.Core.Path.{_≡_};
+ghost use mathlib.Core.List.{[], _∷_};
+ghost use lib.ListN.{getD};
 ghost use Rattle.opcodes.specs.Rows.{rowOf};
+ghost use Rattle.opcodes.specs.declared.Command.the-variants.{Unlisted, Reads, Orders, Works};
+ghost use Rattle.opcodes.specs.declared.Source.the-variants.{Array, Register, Status, Identity, Legacy};
+ghost use Rattle.opcodes.specs.declared.Order.the-variants.{Enable, Disable, DeepPowerDown, UltraDeepPowerDown, Resume, Reset};
+ghost use Rattle.opcodes.specs.declared.Work.the-variants.{Program, Erase, Otp, WriteStatus, WriteStatusTwo};
+ghost use Rattle.opcodes.specs.declared.Region.the-variants.{Page, Small, Large, Chip};
 
 // Where a read takes the bytes that it drives: the array, the security register, the status bytes, the device's identity, or its
 // legacy identity.
@@ -60,241 +67,66 @@ pub struct Row {
     pub command: Command,
 }
 
-// As many positions as the frame has: no frame that is accepted has more.
-const ENDLESS: u16 = 65535;
-
-const ROWS: [Row; 23] = [
-    Row {
-        code: 0x03,
-        bytes: 1,
-        first: 4,
-        most: ENDLESS,
-        boundary: false,
-        latch: false,
-        busy: false,
-        command: Command::Reads(Source::Array),
-    },
-    Row {
-        code: 0x0B,
-        bytes: 1,
-        first: 5,
-        most: ENDLESS,
-        boundary: false,
-        latch: false,
-        busy: false,
-        command: Command::Reads(Source::Array),
-    },
-    Row {
-        code: 0x77,
-        bytes: 1,
-        first: 6,
-        most: ENDLESS,
-        boundary: false,
-        latch: false,
-        busy: false,
-        command: Command::Reads(Source::Register),
-    },
-    Row {
-        code: 0x05,
-        bytes: 1,
-        first: 1,
-        most: ENDLESS,
-        boundary: false,
-        latch: false,
-        busy: true,
-        command: Command::Reads(Source::Status),
-    },
-    Row {
-        code: 0x9F,
-        bytes: 1,
-        first: 1,
-        most: 4,
-        boundary: false,
-        latch: false,
-        busy: false,
-        command: Command::Reads(Source::Identity),
-    },
-    Row {
-        code: 0x15,
-        bytes: 1,
-        first: 1,
-        most: 2,
-        boundary: false,
-        latch: false,
-        busy: false,
-        command: Command::Reads(Source::Legacy),
-    },
-    Row {
-        code: 0x06,
-        bytes: 1,
-        first: 0,
-        most: 0,
-        boundary: true,
-        latch: false,
-        busy: false,
-        command: Command::Orders(Order::Enable),
-    },
-    Row {
-        code: 0x04,
-        bytes: 1,
-        first: 0,
-        most: 0,
-        boundary: true,
-        latch: false,
-        busy: false,
-        command: Command::Orders(Order::Disable),
-    },
-    Row {
-        code: 0xB9,
-        bytes: 1,
-        first: 0,
-        most: 0,
-        boundary: true,
-        latch: false,
-        busy: false,
-        command: Command::Orders(Order::DeepPowerDown),
-    },
-    Row {
-        code: 0x79,
-        bytes: 1,
-        first: 0,
-        most: 0,
-        boundary: true,
-        latch: false,
-        busy: false,
-        command: Command::Orders(Order::UltraDeepPowerDown),
-    },
-    Row {
-        code: 0xAB,
-        bytes: 1,
-        first: 0,
-        most: 0,
-        boundary: true,
-        latch: false,
-        busy: false,
-        command: Command::Orders(Order::Resume),
-    },
-    Row {
-        code: 0xF0,
-        bytes: 2,
-        first: 0,
-        most: 0,
-        boundary: true,
-        latch: false,
-        busy: true,
-        command: Command::Orders(Order::Reset),
-    },
-    Row {
-        code: 0x02,
-        bytes: 5,
-        first: 0,
-        most: 0,
-        boundary: true,
-        latch: true,
-        busy: false,
-        command: Command::Works(Work::Program),
-    },
-    Row {
-        code: 0x81,
-        bytes: 4,
-        first: 0,
-        most: 0,
-        boundary: true,
-        latch: true,
-        busy: false,
-        command: Command::Works(Work::Erase(Region::Page)),
-    },
-    Row {
-        code: 0x20,
-        bytes: 4,
-        first: 0,
-        most: 0,
-        boundary: true,
-        latch: true,
-        busy: false,
-        command: Command::Works(Work::Erase(Region::Small)),
-    },
-    Row {
-        code: 0x52,
-        bytes: 4,
-        first: 0,
-        most: 0,
-        boundary: true,
-        latch: true,
-        busy: false,
-        command: Command::Works(Work::Erase(Region::Large)),
-    },
-    Row {
-        code: 0xD8,
-        bytes: 4,
-        first: 0,
-        most: 0,
-        boundary: true,
-        latch: true,
-        busy: false,
-        command: Command::Works(Work::Erase(Region::Large)),
-    },
-    Row {
-        code: 0x60,
-        bytes: 1,
-        first: 0,
-        most: 0,
-        boundary: true,
-        latch: true,
-        busy: false,
-        command: Command::Works(Work::Erase(Region::Chip)),
-    },
-    Row {
-        code: 0xC7,
-        bytes: 1,
-        first: 0,
-        most: 0,
-        boundary: true,
-        latch: true,
-        busy: false,
-        command: Command::Works(Work::Erase(Region::Chip)),
-    },
-    Row {
-        code: 0x62,
-        bytes: 1,
-        first: 0,
-        most: 0,
-        boundary: true,
-        latch: true,
-        busy: false,
-        command: Command::Works(Work::Erase(Region::Chip)),
-    },
-    Row {
-        code: 0x9B,
-        bytes: 5,
-        first: 0,
-        most: 0,
-        boundary: true,
-        latch: true,
-        busy: false,
-        command: Command::Works(Work::Otp),
-    },
-    Row {
-        code: 0x01,
-        bytes: 2,
-        first: 0,
-        most: 0,
-        boundary: true,
-        latch: true,
-        busy: false,
-        command: Command::Works(Work::WriteStatus),
-    },
-    Row {
-        code: 0x31,
-        bytes: 2,
-        first: 0,
-        most: 0,
-        boundary: true,
-        latch: true,
-        busy: false,
-        command: Command::Works(Work::WriteStatusTwo),
-    },
+// The rows, a number each, by its hexadecimal digits: the opcode, the fewest bytes, the first position, the most positions (FFFF: as
+// many as the frame has), boundary, latch, busy, and the command's number.
+const ROWS: [u64; 23] = [
+    0x03_1_4_FFFF_0_0_0_01,
+    0x0B_1_5_FFFF_0_0_0_01,
+    0x77_1_6_FFFF_0_0_0_02,
+    0x05_1_1_FFFF_0_0_1_03,
+    0x9F_1_1_0004_0_0_0_04,
+    0x15_1_1_0002_0_0_0_05,
+    0x06_1_0_0000_1_0_0_06,
+    0x04_1_0_0000_1_0_0_07,
+    0xB9_1_0_0000_1_0_0_08,
+    0x79_1_0_0000_1_0_0_09,
+    0xAB_1_0_0000_1_0_0_0A,
+    0xF0_2_0_0000_1_0_1_0B,
+    0x02_5_0_0000_1_1_0_0C,
+    0x81_4_0_0000_1_1_0_0D,
+    0x20_4_0_0000_1_1_0_0E,
+    0x52_4_0_0000_1_1_0_0F,
+    0xD8_4_0_0000_1_1_0_0F,
+    0x60_1_0_0000_1_1_0_10,
+    0xC7_1_0_0000_1_1_0_10,
+    0x62_1_0_0000_1_1_0_10,
+    0x9B_5_0_0000_1_1_0_11,
+    0x01_2_0_0000_1_1_0_12,
+    0x31_2_0_0000_1_1_0_13,
 ];
+
+// The command of a number.
+fn command_of(number: u64) -> Command
+    ensures { λ r. ⌜
+        r ≡
+        getD
+        (Unlisted ∷ Reads Array ∷ Reads Register ∷ Reads Status ∷ Reads Identity ∷ Reads Legacy ∷ Orders Enable ∷ Orders Disable ∷ Orders DeepPowerDown ∷ Orders UltraDeepPowerDown ∷ Orders Resume ∷ Orders Reset ∷ Works Program ∷ Works (Erase Page) ∷ Works (Erase Small) ∷ Works (Erase Large) ∷ Works (Erase Chip) ∷ Works Otp ∷ Works WriteStatus ∷ Works WriteStatusTwo ∷ [])
+        number Unlisted
+        ⌝ }
+{
+    match number {
+        0x01 => Command::Reads(Source::Array),
+        0x02 => Command::Reads(Source::Register),
+        0x03 => Command::Reads(Source::Status),
+        0x04 => Command::Reads(Source::Identity),
+        0x05 => Command::Reads(Source::Legacy),
+        0x06 => Command::Orders(Order::Enable),
+        0x07 => Command::Orders(Order::Disable),
+        0x08 => Command::Orders(Order::DeepPowerDown),
+        0x09 => Command::Orders(Order::UltraDeepPowerDown),
+        0x0A => Command::Orders(Order::Resume),
+        0x0B => Command::Orders(Order::Reset),
+        0x0C => Command::Works(Work::Program),
+        0x0D => Command::Works(Work::Erase(Region::Page)),
+        0x0E => Command::Works(Work::Erase(Region::Small)),
+        0x0F => Command::Works(Work::Erase(Region::Large)),
+        0x10 => Command::Works(Work::Erase(Region::Chip)),
+        0x11 => Command::Works(Work::Otp),
+        0x12 => Command::Works(Work::WriteStatus),
+        0x13 => Command::Works(Work::WriteStatusTwo),
+        _ => Command::Unlisted,
+    }
+}
 
 // The row of an opcode; of one that is not listed, a row that says so.
 pub fn row_of(code: u8) -> Row
@@ -304,8 +136,17 @@ pub fn row_of(code: u8) -> Row
     let mut i = 0;
     while i < 23 {
         let row = rows[i];
-        if row.code == code {
-            return row;
+        if row / 0x1000_0000_0000 == code as u64 {
+            return Row {
+                code: code,
+                bytes: (row / 0x100_0000_0000 % 16) as u8,
+                first: (row / 0x10_0000_0000 % 16) as u8,
+                most: (row / 0x10_0000 % 0x1_0000) as u16,
+                boundary: row / 0x1_0000 % 2 == 1,
+                latch: row / 0x1000 % 2 == 1,
+                busy: row / 0x100 % 2 == 1,
+                command: command_of(row % 0x100),
+            };
         }
         i += 1;
     }
