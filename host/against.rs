@@ -97,8 +97,17 @@ struct Scene {
 struct Row {
     /// What the table calls it.
     name: String,
+    /// Whether its times have the call of a step in them.
+    has_call: bool,
     /// Then and now, if they have it.
     contenders: [Option<Contender>; 2],
+}
+
+impl Row {
+    /// The least times, then and now.
+    fn times(&self) -> [Option<f64>; 2] {
+        self.contenders.each_ref().map(|one| one.as_ref().map(Contender::best))
+    }
 }
 
 extern "C" {
@@ -179,7 +188,7 @@ fn main() -> ExitCode {
         return ExitCode::from(2);
     };
     let (frames, builds) = (frames(), builds());
-    if let Err(fault) = frames.iter().try_for_each(|frame| check(frame, &builds)) {
+    if let Err(fault) = frames.iter().try_for_each(|frame| check_row(frame, &builds)) {
         eprintln!("host/against: {fault}");
         return ExitCode::FAILURE;
     }
@@ -231,7 +240,9 @@ fn frames() -> Vec<Frame> {
         still("status read, 1 byte", vec![0x05, 0], READ),
         still("write enable", vec![0x06], CONTROL),
         program("program, 1 byte", 0, 1, 1),
+        program("program, 3 bytes", 0, 3, 4),
         program("program, 4 bytes", 0, 4, 4),
+        program("program, 7 bytes", 0, 7, 8),
         program("program, 16 bytes", 0, 16, 16),
         program("program, 64 bytes", 0, 64, 64),
         program("program, 256 bytes", 0, 256, 256),
@@ -328,6 +339,14 @@ fn settings() -> [u64; 8] {
     settings
 }
 
+/// Checks each frame of a row.
+fn check_row(frame: &Frame, builds: &[Build; 2]) -> Result<(), String> {
+    frame
+        .inputs()
+        .into_iter()
+        .try_for_each(|input| check(&Frame { input, ..*frame }, builds))
+}
+
 /// Finds fault with a frame that comes to something else than it has to, after which the two builds differ, or whose step alone does not
 /// leave the memory as the frame does.
 fn check(frame: &Frame, builds: &[Build; 2]) -> Result<(), String> {
@@ -391,7 +410,10 @@ fn rows(frames: &[Frame], builds: &[Build; 2]) -> Vec<Row> {
         let of_build = |build: &Build| build.step(frame.input[0]);
         step_alone(frame.name, frame, builds.each_ref().map(of_build))
     });
-    let call = step_alone("a call that does nothing", &frames[0], [Some(nothing), Some(nothing)]);
+    let call = Row {
+        has_call: false,
+        ..step_alone("a call that does nothing", &frames[0], [Some(nothing), Some(nothing)])
+    };
     whole.chain(steps).chain([call]).collect()
 }
 
@@ -413,6 +435,7 @@ fn whole(frame: &Frame, builds: &[Build; 2]) -> Row {
     };
     Row {
         name: format!("whole frame: {}", frame.name),
+        has_call: false,
         contenders: [contender(&builds[0]), contender(&builds[1])],
     }
 }
@@ -429,6 +452,7 @@ fn step_alone(name: &str, frame: &Frame, steps: [Option<Step>; 2]) -> Row {
     };
     Row {
         name: format!("memory alone: {name}"),
+        has_call: true,
         contenders: steps.map(|step| step.map(contender)),
     }
 }
@@ -455,23 +479,30 @@ fn print_conditions(builds: &[Build; 2], told: [&String; 2]) {
     println!("Buffers were warmed up and are not cleared; both builds of a row work on the same ones. The builds' functions begin at");
     println!("multiples of 64 bytes.");
     println!(
-        "The {FRAMES} programs of a row go on from place to place, each behind the one before; those of 256 bytes and more, and those that"
+        "The {FRAMES} programs of a row go on from place to place, each behind the one before, or at the next place of four or eight;"
     );
-    println!("wrap, from page to page.");
+    println!("those of 256 bytes and more, and those that wrap, from page to page; in the register they begin again at its end.");
     println!("Whole frame: through the C face, handed a record with WEL set, the OTP-used mark clear and no busy ticks each time.");
     println!("Memory alone: memory::program and memory::program_once of the same module, compiled by the same words but visible from");
-    println!("outside; - where there are none. Before the measuring, both builds left the same in every row.");
+    println!(
+        "outside; - where there are none. Each of their times has a call in it, whose own is the last row; the last column is without"
+    );
+    println!("it. Before the measuring, both builds left the same after each frame.");
     println!();
 }
 
 /// The rows, with the least times.
 fn print_table(rows: &[Row]) {
-    println!("| what | then, ns | now, ns | now / then | then / now |");
-    println!("|---|--:|--:|--:|--:|");
+    println!("| what | then, ns | now, ns | now / then | then / now | the same without the call |");
+    println!("|---|--:|--:|--:|--:|--:|");
+    let [call_then, call_now] = rows.last().map_or([None, None], Row::times);
+    let ratio = |over: Option<f64>, under: Option<f64>| over.zip(under).map(|(over, under)| over / under);
+    let less = |time: Option<f64>, call: Option<f64>| time.zip(call).map(|(time, call)| time - call);
     for row in rows {
-        let [then, now] = row.contenders.each_ref().map(|one| one.as_ref().map(Contender::best));
-        let ratio = |over: Option<f64>, under: Option<f64>| over.zip(under).map(|(over, under)| over / under);
-        let cells = [then, now, ratio(now, then), ratio(then, now)].map(|number| number.map_or("-".to_string(), short));
+        let [then, now] = row.times();
+        let without = ratio(less(then, call_then), less(now, call_now)).filter(|_| row.has_call);
+        let cells = [then, now, ratio(now, then), ratio(then, now), without];
+        let cells = cells.map(|number| number.map_or("-".to_string(), short));
         println!("| {} | {} |", row.name, cells.join(" | "));
     }
 }

@@ -1,4 +1,5 @@
--- The laws of a program: filling a page buffer, and ANDing it into its page, said over the page's size. Assumes nothing.
+-- The laws of a program: that a page buffer of FFh, loaded and ANDed into its page, is one, and which data bytes count; said over the
+-- page's size. Assumes nothing.
 use Prim.Native.Nat.{ℕ, zero, suc, _+_, _-_, _%_, _<_, _≤_}
 use mathlib.Core.Bool.{Bool, true, false, true≢false, false≢true, cond, _||_, or-true}
 use mathlib.Core.List.{List}
@@ -78,6 +79,7 @@ last-covered size start sent (suc n) p x y e = by (aims size start n p) (last-co
     by true ih c = refl
     by false ih c = ih c
 
+-- where the j-th data byte aims is covered
 pub covered-at : (size start n j : ℕ) → j < n → covered size start n ((start + j) % size) ≡ true
 unfolding covered
 covered-at size start zero j l = absurd (not-suc-le-zero l)

@@ -1,6 +1,6 @@
 // What happens to the bytes of a lent memory: a range is set, a memory is copied out with wrap at its end. It knows slices and numbers,
-// and nothing of flash. Each contract gives every byte afterwards as a function of its place and its old value. `pages` stands on it,
-// which programs a page.
+// and nothing of flash. Each contract gives every byte afterwards as a function of its place and its old value. And two functions on
+// numbers.
 pub mod copy;
 pub mod range;
 
@@ -14,8 +14,8 @@ pub fn lesser(a: usize, b: usize) -> usize
     if a < b { a } else { b }
 }
 
-// The place that a number names in a memory of that size, if past the last place it goes on at 0. Most name one as they are, and no
-// division is spent on them.
+// The place that a number names in a memory of that size: past the last place it goes on at 0. Most numbers are such a place already,
+// and cost no division.
 pub fn wrapped(number: usize, size: usize) -> usize
     requires { ⌜ 0 < size ⌝ }
     ensures { λ r. ⌜ r ≡ number % size ⌝ }

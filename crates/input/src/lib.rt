@@ -29,7 +29,7 @@ fn wide(byte: u8) -> usize
     byte as usize
 }
 
-// The three bytes behind the opcode, high first; of a frame that has them all, each is read as it is.
+// The three bytes behind the opcode, high first; missing ones are 0. A frame that has all three is tested once.
 pub fn address_of(input: &[u8]) -> usize
     ensures { λ r. ⌜ r ≡ addressOf (now (input .entry)) ⌝ }
 {

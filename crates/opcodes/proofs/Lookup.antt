@@ -11,10 +11,10 @@ use Rattle.opcodes.proofs.Search.{from-here}
 use Rattle.opcodes.proofs.Spelling.{spelled}
 
 -- what is found in the rows of these numbers
-abbrev pub found : ℕ → List ℕ → Row
-found code numbers = lookup (map spelled numbers) code
+abbrev pub sought : ℕ → List ℕ → Row
+sought code numbers = lookup (map spelled numbers) code
 
-module _ (numbers : List ℕ) (i code : ℕ) (w : Row) (left : found code (drop i numbers) ≡ w) (l : i < length numbers) where
+module _ (numbers : List ℕ) (i code : ℕ) (w : Row) (left : sought code (drop i numbers) ≡ w) (l : i < length numbers) where
   abbrev row : Row
   row = spelled (getD numbers i 0)
 
@@ -22,9 +22,9 @@ module _ (numbers : List ℕ) (i code : ℕ) (w : Row) (left : found code (drop 
   pub here : (command : Command) → command ≡ row .command → row .code ≡ code
       → record { code = code; bytes = row .bytes; first = row .first; most = row .most; boundary = row .boundary; latch = row .latch; busy = row .busy; command = command } ≡ w
   unfolding lookup
-  here command c e = rw (c, sym e) (rw (eq-eqb (row .code) code e) at (from-here (found code) numbers i w left 0 l))
+  here command c e = rw (c, sym e) (rw (eq-eqb (row .code) code e) at (from-here (sought code) numbers i w left 0 l))
 
   -- it has another: the rows after it are left
-  pub next : (row .code ≡ code → ⊥) → found code (drop (i + 1) numbers) ≡ w
+  pub next : (row .code ≡ code → ⊥) → sought code (drop (i + 1) numbers) ≡ w
   unfolding lookup
-  next n = rw (ne-eqb (row .code) code n) at (from-here (found code) numbers i w left 0 l)
+  next n = rw (ne-eqb (row .code) code n) at (from-here (sought code) numbers i w left 0 l)

@@ -15,7 +15,7 @@ use Rattle.opcodes.specs.declared.Order.the-variants.{Enable, Disable, D
 use Rattle.opcodes.specs.declared.Region.the-variants.{Page, Small, Large, Chip}
 use Rattle.opcodes.specs.declared.Work.the-variants.{Program, Erase, Otp, WriteStatus, WriteStatusTwo}
 
-abbrev pub commands : List Command
+abbrev commands : List Command
 commands =
     Unlisted ∷
     Reads Array ∷
@@ -53,7 +53,7 @@ spelled number =
     }
 
 -- n is none of the numbers from 1 to m
-abbrev pub None : ℕ → ℕ → Type 0
+abbrev None : ℕ → ℕ → Type 0
 None n zero = Unit
 None n (suc m) = None n m × (n ≢ suc m)
 

@@ -68,7 +68,7 @@ pub struct Row {
 }
 
 // The rows, a number each, by its hexadecimal digits: the opcode, the fewest bytes, the first position, the most positions (FFFF: as
-// many as the frame has), boundary, latch, busy, and the command's number.
+// many as the frame has), boundary, latch, busy, and the number of its command, which `command_of` spells out.
 const ROWS: [u64; 23] = [
     0x03_1_4_FFFF_0_0_0_01,
     0x0B_1_5_FFFF_0_0_0_01,
@@ -95,7 +95,7 @@ const ROWS: [u64; 23] = [
     0x31_2_0_0000_1_1_0_13,
 ];
 
-// The command of a number.
+// The command of a number; 0 and those past the list stand for none.
 fn command_of(number: u64) -> Command
     ensures { λ r. ⌜
         r ≡

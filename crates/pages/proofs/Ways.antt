@@ -95,29 +95,30 @@ module _ (size page start : ℕ) (sent : List ℕ) (count skipped offset room st
           not-behind (page + offset) run k x (omega (arith, run-long)) ∙ sym (missed k x j (omega arith) q (omega arith) e (omega arith))
 
   -- wherever the place is
-  at : (k x : ℕ) → Dec (k < page) → Dec (k < page + offset) → Dec (k < page + size)
+  everywhere : (k x : ℕ) → Dec (k < page) → Dec (k < page + offset) → Dec (k < page + size)
       → andedIn page rest k (andedIn (page + offset) run k x) ≡ programmed size page start sent k x
-  at k x (yes p) q m =
+  everywhere k x (yes p) q m =
       not-before page rest k (andedIn (page + offset) run k x) p ∙
       (not-before (page + offset) run k x (omega arith) ∙ sym (over-out _ _ k x (rw (range-before page (page + size) k p))))
-  at k x (no p) (yes q) m = before k x (omega arith) q (decLt k (page + left))
-  at k x (no p) (no q) (yes m) = onward k x (omega arith) m (decLt k (page + offset + straight))
-  at k x (no p) (no q) (no m) =
+  everywhere k x (no p) (yes q) m = before k x (omega arith) q (decLt k (page + left))
+  everywhere k x (no p) (no q) (yes m) = onward k x (omega arith) m (decLt k (page + offset + straight))
+  everywhere k x (no p) (no q) (no m) =
       not-behind page rest k (andedIn (page + offset) run k x) (omega (arith, rest-long)) ∙
       (not-behind (page + offset) run k x (omega (arith, run-long)) ∙
       sym (over-out _ _ k x (rw (range-behind page (page + size) k (omega arith)))))
 
+  -- the two runs leave what the program leaves
   pub in-runs : (xs : List ℕ) → each (andedIn page rest) (each (andedIn (page + offset) run) xs) ≡ each (programmed size page start sent) xs
   in-runs xs =
       each-then (andedIn page rest) (andedIn (page + offset) run) (programmed size page start sent) xs
-      (λ k l. at k (getD xs k 0) (decLt k page) (decLt k (page + offset)) (decLt k (page + size)))
+      (λ k l. everywhere k (getD xs k 0) (decLt k page) (decLt k (page + offset)) (decLt k (page + size)))
 
   -- and so does the page buffer of FFh
   pub two-ways : (buffer xs : List ℕ) → buffer ≡ each (loaded size start sent) (replicate size 255) → ((k : ℕ) → getD xs k 0 < 256)
       → each (andedIn page buffer) xs ≡ each (andedIn page rest) (each (andedIn (page + offset) run) xs)
   two-ways buffer xs filling bytes = buffered size page start sent buffer xs filling bytes ∙ sym (in-runs xs)
 
--- data that does not reach the page's end is ANDed in as it is
+-- data that does not go past the page's end is ANDed in as it is
 pub at-once : (size page start : ℕ) (sent xs : List ℕ) → start < size → length sent ≤ size - start
     → each (andedIn (page + start) sent) xs ≡ each (programmed size page start sent) xs
 at-once size page start sent xs p q =

@@ -7,44 +7,44 @@ ghost use lib.ListN.{length, drop};
 ghost use Rattle.cells.specs.Each.{each};
 ghost use Rattle.cells.specs.Page.{andedIn, programmed};
 
-// The buffer is ANDed into the memory from `at` on.
-fn and_in(memory: &mut [u8], at: usize, buffer: &[u8])
-    requires { ⌜ at + length (now buffer) ≤ length (now memory) ⌝ }
-    ensures { λ _. ⌜ now (memory .exit) ≡ each (andedIn at (now (buffer .entry))) (now (memory .entry)) ⌝ }
+// The data is ANDed into the memory from `at` on, a byte at a time.
+fn and_each(memory: &mut [u8], at: usize, sent: &[u8])
+    requires { ⌜ at + length (now sent) ≤ length (now memory) ⌝ }
+    ensures { λ _. ⌜ now (memory .exit) ≡ each (andedIn at (now (sent .entry))) (now (memory .entry)) ⌝ }
 {
-    let end = at + buffer.len();
+    let end = at + sent.len();
     let mut i = at;
     while i < end {
-        memory[i] = memory[i] & buffer[i - at];
+        memory[i] = memory[i] & sent[i - at];
         i += 1;
     }
 }
 
 // The same for four bytes, without a loop: most programs have four.
-fn and_four(memory: &mut [u8], at: usize, buffer: &[u8])
-    requires { ⌜ (at + 4 ≤ length (now memory)) × (length (now buffer) ≡ 4) ⌝ }
-    ensures { λ _. ⌜ now (memory .exit) ≡ each (andedIn at (now (buffer .entry))) (now (memory .entry)) ⌝ }
+fn and_four(memory: &mut [u8], at: usize, sent: &[u8])
+    requires { ⌜ (at + 4 ≤ length (now memory)) × (length (now sent) ≡ 4) ⌝ }
+    ensures { λ _. ⌜ now (memory .exit) ≡ each (andedIn at (now (sent .entry))) (now (memory .entry)) ⌝ }
 {
-    let a = memory[at] & buffer[0];
-    let b = memory[at + 1] & buffer[1];
-    let c = memory[at + 2] & buffer[2];
-    let d = memory[at + 3] & buffer[3];
+    let a = memory[at] & sent[0];
+    let b = memory[at + 1] & sent[1];
+    let c = memory[at + 2] & sent[2];
+    let d = memory[at + 3] & sent[3];
     memory[at] = a;
     memory[at + 1] = b;
     memory[at + 2] = c;
     memory[at + 3] = d;
 }
 
-// The same for any number of bytes, by whichever is the shorter way.
-fn and_run(memory: &mut [u8], at: usize, buffer: &[u8])
-    requires { ⌜ at + length (now buffer) ≤ length (now memory) ⌝ }
-    ensures { λ _. ⌜ now (memory .exit) ≡ each (andedIn at (now (buffer .entry))) (now (memory .entry)) ⌝ }
+// The same by whichever of the two is the shorter way.
+fn and_in(memory: &mut [u8], at: usize, sent: &[u8])
+    requires { ⌜ at + length (now sent) ≤ length (now memory) ⌝ }
+    ensures { λ _. ⌜ now (memory .exit) ≡ each (andedIn at (now (sent .entry))) (now (memory .entry)) ⌝ }
 {
-    if buffer.len() == 4 {
-        and_four(memory, at, buffer);
+    if sent.len() == 4 {
+        and_four(memory, at, sent);
         return;
     }
-    and_in(memory, at, buffer);
+    and_each(memory, at, sent);
 }
 
 // Data that goes past the page's end: of it the last `size` bytes count. One run of them goes up to the page's end, and what is left
@@ -57,12 +57,12 @@ fn program_around(memory: &mut [u8], size: usize, page: usize, start: usize, sen
     let skipped = sent.len() - count;
     let offset = wrapped(start + skipped, size);
     let turn = skipped + lesser(count, size - offset);
-    and_in(memory, page + offset, &sent[skipped..turn]);
-    and_in(memory, page, &sent[turn..]);
+    and_each(memory, page + offset, &sent[skipped..turn]);
+    and_each(memory, page, &sent[turn..]);
 }
 
 // Programs the page of `size` bytes at `page` with the source from `from` on, the first byte at the offset `start`. Data that does not
-// reach the page's end is one run.
+// go past the page's end is one run.
 pub fn program_page(
     memory: &mut [u8],
     size: usize,
@@ -76,7 +76,7 @@ pub fn program_page(
 {
     let sent = &source[lesser(from, source.len())..];
     if sent.len() <= size - start {
-        and_run(memory, page + start, sent);
+        and_in(memory, page + start, sent);
         return;
     }
     program_around(memory, size, page, start, sent);

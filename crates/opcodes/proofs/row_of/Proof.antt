@@ -5,13 +5,13 @@ use native.Mathlib.Omega.{arith}
 use borrow.Author.Needs.{needs}
 use lib.ListN.{drop}
 use Rattle.opcodes.specs.Rows.{rows, lookup, rowOf}
-use Rattle.opcodes.proofs.Lookup.{found, here, next}
+use Rattle.opcodes.proofs.Lookup.{sought, here, next}
 use Rattle.opcodes.proofs.Search.{at-end}
 use Rattle.opcodes.proofs.row_of.Statement.{statement}
 use Rattle.opcodes.proofs.row_of.Tie as tie
 
 abbrev Inv-loop : tie.InvT-loop
-Inv-loop code numbers i₀ i = found code (drop i numbers) ≡ rowOf code
+Inv-loop code numbers i₀ i = sought code (drop i numbers) ≡ rowOf code
 
 abbrev μ-loop : tie.MeasureT-loop
 μ-loop code numbers i₀ i = 23 - i
@@ -30,7 +30,7 @@ loop-again c = let a = c .before .before .loop in next _ (a .i) _ _ (a .inv) (om
 
 returns-2 : tie.Need-returns-2 Inv-loop μ-loop
 unfolding lookup
-returns-2 c = at-end (found (c .before .before .args .code)) _ (c .before .loop .i) _ (c .before .loop .inv) (omega arith)
+returns-2 c = at-end (sought (c .before .before .args .code)) _ (c .before .loop .i) _ (c .before .loop .inv) (omega arith)
 
 pub row-of-spec : {M : Type 1} → statement M
 row-of-spec =

@@ -20,7 +20,7 @@ returns : tie.Need-returns
 returns c =
     let start = c .before .before .before .before .before .before .before .before in
     let a = start .args in
-    rw (add-zero (a .at)) at (in-four (a .at) (a .buffer .now) (a .memory .now) (start .pre .1) (start .pre .0))
+    rw (add-zero (a .at)) at (in-four (a .at) (a .sent .now) (a .memory .now) (start .pre .1) (start .pre .0))
 
 pub and-four-spec : {M : Type 1} → statement M
 and-four-spec =

@@ -23,8 +23,8 @@ returns c =
     let count = b .before .before .lesser .result in
     let offset = b .before .wrapped .result in
     let straight = b .lesser2 .result in
-    c .before .before .and-in2 .ensures ∙
-    (ap (each (andedIn (a .page) (part (n - count + straight) n (a .sent .now)))) (c .before .before .before .before .before .before .before .and-in .ensures) ∙
+    c .before .before .and-each2 .ensures ∙
+    (ap (each (andedIn (a .page) (part (n - count + straight) n (a .sent .now)))) (c .before .before .before .before .before .before .before .and-each .ensures) ∙
     in-runs (a .size) (a .page) (a .start) (a .sent .now) count (n - count) offset (a .size - offset) straight (count - straight)
     (b .before .before .lesser .ensures) (and-left n (a .size) count (b .before .before .lesser .ensures)) (b .before .wrapped .ensures .0) (omega arith) (b .lesser2 .ensures)
     (and-left count (a .size - offset) straight (b .lesser2 .ensures)) (a .memory .now))

@@ -1,4 +1,4 @@
--- `pages::program_page` meets its contract: data that does not reach the page's end wraps nowhere, and the source from its end on is as
+-- `pages::program_page` meets its contract: data that does not go past the page's end wraps nowhere, and the source from its end on is as
 -- empty as from any place behind it. Assumes nothing.
 use Prim.Native.Nat.{ℕ}
 use mathlib.Core.List.{List}
@@ -28,7 +28,7 @@ returns c =
     let a = start .args in
     let sent = part (c .before .before .before .before .before .before .lesser .result) (length (a .source .now)) (a .source .now) in
     asked (c .before .before .before .before .before .before) _
-    (c .before .before .and-run .ensures ∙
+    (c .before .before .and-in .ensures ∙
     at-once (a .size) (a .page) (a .start) sent (a .memory .now) (start .pre .1) (c .before .before .before .before .if1 .taken))
 
 returns-2 : tie.Need-returns-2

@@ -1,17 +1,17 @@
--- `pages::and_in` meets its contract: each turn ANDs one byte more, read as it was. Assumes nothing.
+-- `pages::and_each` meets its contract: each turn ANDs one byte more, read as it was. Assumes nothing.
 use Prim.Native.Nat.{_-_}
 use native.Mathlib.Omega.{arith}
 use lib.Bits.{bitAnd}
 use lib.ListN.{getD}
 use Rattle.cells.proofs.Runs.{Reached, begins, same-long, next-read, goes-on, ends}
-use Rattle.pages.proofs.and_in.Statement.{statement}
-use Rattle.pages.proofs.and_in.Tie as tie
+use Rattle.pages.proofs.and_each.Statement.{statement}
+use Rattle.pages.proofs.and_each.Tie as tie
 
 abbrev Inv-loop : tie.InvT-loop
-Inv-loop memory₀ at buffer end i₀ memory i = Reached (λ k x. bitAnd x (getD buffer (k - at) 0)) at end memory₀ i memory
+Inv-loop memory₀ at sent end i₀ memory i = Reached (λ k x. bitAnd x (getD sent (k - at) 0)) at end memory₀ i memory
 
 abbrev μ-loop : tie.MeasureT-loop
-μ-loop memory₀ at buffer end i₀ memory i = end - i
+μ-loop memory₀ at sent end i₀ memory i = end - i
 
 loop-holds : tie.Need-loop-holds Inv-loop μ-loop
 loop-holds c = begins _ _ _ _ (omega arith)
@@ -33,8 +33,8 @@ same-length c = same-long (c .before .loop .inv)
 returns : tie.Need-returns Inv-loop μ-loop
 returns c = ends (c .before .loop .inv) (omega arith)
 
-pub and-in-spec : {M : Type 1} → statement M
-and-in-spec =
+pub and-each-spec : {M : Type 1} → statement M
+and-each-spec =
     tie.close
     (tie.spec
     Inv-loop
