@@ -1,4 +1,5 @@
-// Programming: of the data the last bytes count, as many as the page has, and each is ANDed at the one place that it aims at.
+// Programming: of the data the last bytes count, as many as the page has, and each is ANDed at the one place that it aims at. The
+// contracts cite the definitions of a program that stand in `cells`, Each.antt and Page.antt; there are none here.
 use cells::lesser;
 use cells::wrapped;
 ghost use mathlib.Core.Path.{_≡_};
@@ -47,8 +48,8 @@ fn and_in(memory: &mut [u8], at: usize, sent: &[u8])
     and_each(memory, at, sent);
 }
 
-// Data that goes past the page's end: of it the last `size` bytes count. One run of them goes up to the page's end, and what is left
-// goes on at its beginning.
+// Programs a page with data that goes past its end: of it the last `size` bytes count. One run of them goes up to the page's end, and
+// what is left goes on at its beginning.
 fn program_around(memory: &mut [u8], size: usize, page: usize, start: usize, sent: &[u8])
     requires { ⌜ (page + size ≤ length (now memory)) × (start < size) ⌝ }
     ensures { λ _. ⌜ now (memory .exit) ≡ each (programmed size page start (now (sent .entry))) (now (memory .entry)) ⌝ }
