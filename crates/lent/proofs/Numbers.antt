@@ -28,7 +28,8 @@ refusalAt n =
     (cond (eqb n 5) Refusal.OutputLength
     (cond (eqb n 6) Refusal.Record
     (cond (eqb n 7) Refusal.Duration
-    Refusal.Pace)))))))
+    (cond (eqb n 8) Refusal.Pace
+    Refusal.Account))))))))
 
 back : (r : Refusal) → refusalAt (numberOf r) ≡ r
 unfolding refusalAt
@@ -41,6 +42,7 @@ back Refusal.OutputLength = refl
 back Refusal.Record = refl
 back Refusal.Duration = refl
 back Refusal.Pace = refl
+back Refusal.Account = refl
 
 pub number-tells : (a b : Refusal) → numberOf a ≡ numberOf b → a ≡ b
 number-tells = tells numberOf refusalAt back

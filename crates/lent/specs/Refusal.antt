@@ -22,6 +22,7 @@ numberOf Refusal.OutputLength = 5
 numberOf Refusal.Record = 6
 numberOf Refusal.Duration = 7
 numberOf Refusal.Pace = 8
+numberOf Refusal.Account = 9
 
 -- the bytes that so many bits need: divided by 8, rounded up
 abbrev pub bytesFor : ℕ → ℕ

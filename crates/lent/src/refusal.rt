@@ -17,6 +17,7 @@ pub enum Refusal {
     Record,
     Duration,
     Pace,
+    Account,
 }
 
 impl Refusal {
@@ -34,6 +35,7 @@ impl Refusal {
             Refusal::Record => 6,
             Refusal::Duration => 7,
             Refusal::Pace => 8,
+            Refusal::Account => 9,
         }
     }
 }

@@ -35,6 +35,7 @@ small Refusal.OutputLength = λ e. omega arith
 small Refusal.Record = λ e. omega arith
 small Refusal.Duration = λ e. omega arith
 small Refusal.Pace = λ e. omega arith
+small Refusal.Account = λ e. omega arith
 
 not-255 : (c : Call) (m : Lent) → frame c m .reply .refusal ≢ 255
 unfolding frame

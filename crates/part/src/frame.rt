@@ -49,7 +49,7 @@ fn facts_of(input: &[u8], signals: Signals, busy: bool) -> Facts
 }
 
 // The answer of a refused call.
-fn refused(refusal: Refusal, device: Device) -> Answer
+pub fn refused(refusal: Refusal, device: Device) -> Answer
     ensures { λ r. ⌜ r ≡ spec.refusing refusal device ⌝ }
 {
     Answer {

@@ -1,0 +1,53 @@
+-- A call through the ledger, by whether the ledger is shut to it. Assumes nothing.
+use Prim.Native.Nat.{ℕ, _<_, _≤_}
+use mathlib.Core.Bool.{Bool, true, false, true≢false, not, _||_, and-false}
+use mathlib.Core.Path.{_≡_, refl, sym, ap, _∙_}
+use native.Mathlib.Decide.{ℕ-discrete}
+use borrow.Author.Tests.{ltb-true, ne-eqb}
+use lib.Dec.{ltb, eqb}
+use Rattle.sheet.proofs.Records.{sound-then}
+use Rattle.lent.specs.Refusal.{numberOf}
+use Rattle.lent.proofs.Lengths.{accepted}
+use Rattle.part.specs.declared.frame.Answer.{Answer}
+use Rattle.part.specs.Frame as part
+use Rattle.part.specs.Frame.{Call, Lent, Reply, Result, lengthsOf, numberFor, refused, replyOf}
+use Rattle.part.proofs.Answers.{refusal-is}
+use Rattle.ledger.specs.Ledger.{Ledger, anyAbove, shut, booked}
+use Rattle.ledger.specs.Frame.{afterOthers, replied, frame, Meets}
+
+-- what is known of a ledger that is not shut
+pub open-to : (account : ℕ) (l : Ledger) → shut account l ≡ false
+    → (account < 256) × ((anyAbove (l .totals) ≡ false) × (anyAbove (l .numbers) ≡ false))
+open-to account l e = by (ltb account 256) (anyAbove (l .totals)) (anyAbove (l .numbers)) e refl refl refl
+  where
+    by : (a t n : Bool) → (not a || (t || n)) ≡ false → ltb account 256 ≡ a → anyAbove (l .totals) ≡ t → anyAbove (l .numbers) ≡ n
+        → (account < 256) × ((anyAbove (l .totals) ≡ false) × (anyAbove (l .numbers) ≡ false))
+    by true false false e p q r = (ltb-true account 256 p, (q, r))
+    by true true n e p q r = absurd (true≢false e)
+    by true false true e p q r = absurd (true≢false e)
+    by false t n e p q r = absurd (true≢false e)
+
+-- an accepted call has no more busy ticks left than an operation may take
+pub short : (c : Call) (m n : Lent) (a : Answer) → part.Meets c m a n → numberOf (a .refusal) ≡ 0 → c .device .busy ≤ 60000000
+unfolding part.frame numberFor
+short c m n a e z =
+    let number = sym (refusal-is c (lengthsOf c m)) ∙ (sym (ap (λ (r : Result). r .reply .refusal) e) ∙ z) in
+    sound-then (c .device) (accepted (c .device) (c .settings) (c .signals .bits) (c .signals .pace) (lengthsOf c m) number .sound) .short
+
+-- shut: the call is refused, and all is as it was
+pub shut-frame : (c : Call) (m : Lent) (account : ℕ) (l : Ledger) (r : Reply) → shut account l ≡ true
+    → r ≡ refused (afterOthers (numberFor c (lengthsOf c m))) (c .device) → Meets c m account l r m l
+unfolding frame replied booked part.frame part.replied
+shut-frame c m account l r e p = by (ℕ-discrete (numberFor c (lengthsOf c m)) 0)
+  where
+    by : Dec (numberFor c (lengthsOf c m) ≡ 0) → Meets c m account l r m l
+    by (yes z) = rw (p, e, z)
+    by (no n) = let refused-so = ne-eqb (numberFor c (lengthsOf c m)) 0 n in rw (p, e, refused-so) (rw refused-so)
+
+-- not shut: the part answers, and what it did is booked
+pub open-frame : (c : Call) (m n : Lent) (a : Answer) (account : ℕ) (l kept : Ledger) → shut account l ≡ false → part.Meets c m a n
+    → kept ≡ booked (c .device .busy) (c .signals) (replyOf a) account l → Meets c m account l (replyOf a) n kept
+unfolding frame replied part.frame
+open-frame c m n a account l kept e f p =
+    rw (e, and-false (eqb (numberFor c (lengthsOf c m)) 0), p)
+    (ap (λ (r : Result). record { reply = r .reply; lent = r .lent; ledger = booked (c .device .busy) (c .signals) (r .reply) account l }) f)

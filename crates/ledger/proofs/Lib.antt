@@ -1,0 +1,3 @@
+pub mod Off
+pub mod Above
+pub mod Frames

@@ -1,0 +1,53 @@
+-- `ledger::gathered` meets its contract: as long as the bits are not above the limit, no word so far is. Assumes nothing.
+use Prim.Native.Nat.{ℕ, _-_, _≤_}
+use mathlib.Core.Bool.{false}
+use mathlib.Core.Path.{_≡_, refl, subst}
+use borrow.Author.Needs.{needs}
+use borrow.Author.Tests.{le-ltb}
+use native.Mathlib.Nat.{le-trans}
+use native.Mathlib.Numerals.{add-one}
+use native.Mathlib.Omega.{arith}
+use lib.ListN.{getD}
+use Rattle.ledger.specs.Ledger.{limit, aboveBefore}
+use Rattle.ledger.proofs.Above.{or-left, or-right}
+use Rattle.ledger.proofs.gathered.Statement.{statement}
+use Rattle.ledger.proofs.gathered.Tie as tie
+
+abbrev Inv-loop : tie.InvT-loop
+Inv-loop table all₀ i₀ all i = (i ≤ 256) × (all ≤ limit → aboveBefore i table ≡ false)
+
+abbrev μ-loop : tie.MeasureT-loop
+μ-loop table all₀ i₀ all i = 256 - i
+
+loop-holds : tie.Need-loop-holds Inv-loop μ-loop
+unfolding aboveBefore
+loop-holds c = (omega arith, λ l. refl)
+
+loop-again : tie.Need-loop-again Inv-loop μ-loop
+unfolding aboveBefore
+loop-again c =
+    let a = c .before .before in
+    let word = getD (a .before .args .table .now) (a .loop .i) 0 in (
+      omega arith,
+      λ l. rw (add-one (a .loop .i)) (rw (le-ltb limit word (le-trans (or-right (a .loop .all) word) l)) (a .loop .inv .1 (le-trans (or-left (a .loop .all) word) l))),
+    )
+
+returns : tie.Need-returns Inv-loop μ-loop
+returns c l =
+    let i = c .before .loop .i in
+    let all-seen : i ≡ 256 = omega arith in
+    subst (λ (n : ℕ). aboveBefore n (c .before .before .args .table .now) ≡ false) all-seen (c .before .loop .inv .1 l)
+
+pub gathered-spec : {M : Type 1} → statement M
+gathered-spec =
+    tie.close
+    (tie.spec
+    Inv-loop
+    μ-loop
+    loop-holds
+    (λ c. omega arith)
+    (λ c. c .loop-test .taken)
+    (λ c. omega arith)
+    (λ c. omega arith)
+    loop-again
+    returns)
