@@ -1,5 +1,5 @@
 -- The ledger: what each account was billed, and what one call makes of it. Assumes nothing.
-use Prim.Native.Nat.{ℕ, zero, suc, _+_, _*_, min, max}
+use Prim.Native.Nat.{ℕ, zero, suc, _+_, min, max}
 use mathlib.Core.Bool.{Bool, false, cond, not, _||_}
 use mathlib.Core.List.{List}
 use lib.Dec.{ltb, eqb}
@@ -7,7 +7,7 @@ use lib.ListN.{getD, set, replicate}
 use lib.Text.{eqt}
 use Rattle.input.specs.declared.Signals.{Signals}
 use Rattle.lent.specs.declared.refusal.Refusal.{Refusal}
-use Rattle.lent.specs.Refusal.{bytesFor}
+use Rattle.part.specs.Busy.{ticksOf}
 use Rattle.part.specs.Frame.{Reply}
 use Rattle.ledger.specs.declared.Running.{Running}
 use Rattle.ledger.specs.declared.Reported.{Reported}
@@ -50,10 +50,6 @@ anyAbove table = aboveBefore 256 table
 
 abbrev pub shut : ℕ → Ledger → Bool
 shut account l = not (isAccount account) || (anyAbove (l .totals) || anyAbove (l .numbers))
-
--- the ticks of a call: those elapsed, and those of the frame, a partial last byte position too
-abbrev pub ticksOf : Signals → ℕ
-ticksOf signals = signals .elapsed + bytesFor (signals .bits) * signals .pace
 
 -- what comes off the busy ticks in a call: not more than was left before
 abbrev pub cameOff : ℕ → Signals → ℕ

@@ -1,4 +1,5 @@
 pub mod Frames
 pub mod Answers
 pub mod Effects
+pub mod Busy
 pub mod Frozen

@@ -1,4 +1,5 @@
 pub mod Words
 pub mod Frame
 pub mod Effect
+pub mod Busy
 pub mod Frozen

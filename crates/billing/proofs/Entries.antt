@@ -1,0 +1,68 @@
+-- One call of a series through the ledger, by whether it is refused; and two lists joined. Assumes nothing.
+use Prim.Native.Nat.{ℕ, _<_}
+use mathlib.Core.Bool.{Bool, true, false, true≢false, false≢true, cond, _&&_}
+use mathlib.Core.List.{List, [], _∷_, _++_}
+use mathlib.Core.Logic.{_≢_}
+use mathlib.Core.Path.{_≡_, refl, sym, ap, _∙_}
+use native.Mathlib.Omega.{arith}
+use borrow.Author.Tests.{eq-eqb, ne-eqb}
+use lib.Dec.{eqb}
+use Rattle.sheet.specs.declared.device.Device.{Device}
+use Rattle.lent.specs.declared.refusal.Lengths.{Lengths}
+use Rattle.part.specs.Frame as part
+use Rattle.part.specs.Frame.{Call, Reply, numberFor, refused}
+use Rattle.part.proofs.Answers.{refusal-is}
+use Rattle.series.specs.Turns.{callOf, lengthsOf}
+use Rattle.series.proofs.Turns.{refused-reply}
+use Rattle.ledger.specs.Ledger.{Ledger, shut, booked}
+use Rattle.ledger.specs.Frame.{shutOut, replied}
+use Rattle.billing.specs.Entries.{Entry, Done, replyTo, ledgerBy, doneOf, calls, lastRecord, lastLedger}
+
+module _ (e : Entry) (d : Device) (l : Ledger) where
+  abbrev c : Call
+  c = callOf (e .turn) d
+
+  abbrev lengths : Lengths
+  lengths = lengthsOf (e .turn)
+
+  -- an accepted call: the ledger is not shut to it, and the part answers it
+  pub let-through : replyTo e d l .refusal ≡ 0 → (shut (e .account) l ≡ false) × (replyTo e d l ≡ part.replied c lengths)
+  unfolding replied
+  let-through z = by (eqb (numberFor c lengths) 0) refl (shut (e .account) l) z
+    where
+      by : (b : Bool) → eqb (numberFor c lengths) 0 ≡ b → (s : Bool) → cond (b && s) (refused 9 d) (part.replied c lengths) .refusal ≡ 0
+          → (s ≡ false) × (cond (b && s) (refused 9 d) (part.replied c lengths) ≡ part.replied c lengths)
+      by true t true z = absurd (omega arith)
+      by true t false z = (refl, refl)
+      by false t s z = absurd (false≢true (sym t ∙ eq-eqb (numberFor c lengths) 0 (sym (refusal-is c lengths) ∙ z)))
+
+  -- a refused one hands the record back as it came
+  pub refused-through : replyTo e d l .refusal ≢ 0 → replyTo e d l ≡ refused (replyTo e d l .refusal) d
+  unfolding replied
+  refused-through n = by (shutOut c lengths (e .account) l) n
+    where
+      by : (b : Bool) → cond b (refused 9 d) (part.replied c lengths) .refusal ≢ 0
+          → cond b (refused 9 d) (part.replied c lengths) ≡ refused (cond b (refused 9 d) (part.replied c lengths) .refusal) d
+      by true n = refl
+      by false n = refused-reply (e .turn) d n
+
+  -- and the ledger stays
+  pub refused-ledger : replyTo e d l .refusal ≢ 0 → ledgerBy e d l ≡ l
+  unfolding booked
+  refused-ledger n = rw (ne-eqb (replyTo e d l .refusal) 0 n)
+
+-- two lists joined: the second one starts with the record and the ledger that the first one left
+pub calls-joined : (es fs : List Entry) (d : Device) (l : Ledger) → calls (es ++ fs) d l ≡ calls es d l ++ calls fs (lastRecord es d l) (lastLedger es d l)
+unfolding calls lastRecord lastLedger
+calls-joined [] fs d l = refl
+calls-joined (e ∷ es) fs d l = ap (λ (cs : List Done). doneOf e d l ∷ cs) (calls-joined es fs (replyTo e d l .device) (ledgerBy e d l))
+
+pub record-joined : (es fs : List Entry) (d : Device) (l : Ledger) → lastRecord (es ++ fs) d l ≡ lastRecord fs (lastRecord es d l) (lastLedger es d l)
+unfolding lastRecord lastLedger
+record-joined [] fs d l = refl
+record-joined (e ∷ es) fs d l = record-joined es fs (replyTo e d l .device) (ledgerBy e d l)
+
+pub ledger-joined : (es fs : List Entry) (d : Device) (l : Ledger) → lastLedger (es ++ fs) d l ≡ lastLedger fs (lastRecord es d l) (lastLedger es d l)
+unfolding lastRecord lastLedger
+ledger-joined [] fs d l = refl
+ledger-joined (e ∷ es) fs d l = ledger-joined es fs (replyTo e d l .device) (ledgerBy e d l)

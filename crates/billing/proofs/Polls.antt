@@ -1,0 +1,61 @@
+-- A call that begins nothing may be another account's, and a refused one may be left out. Assumes nothing.
+use Prim.Native.Nat.{ℕ, _<_}
+use mathlib.Core.Bool.{Bool, true, false, true≢false, cond, _||_}
+use mathlib.Core.List.{List, _∷_, _++_}
+use mathlib.Core.Logic.{_≢_}
+use mathlib.Core.Path.{_≡_, refl, sym, ap, subst, _∙_}
+use borrow.Author.Tests.{lt-ltb}
+use lib.Dec.{T, eqb}
+use lib.Text.{eqt, eqt→eq}
+use Rattle.sheet.specs.declared.device.Device.{Device}
+use Rattle.part.specs.Frame.{Reply}
+use Rattle.series.specs.Turns.{Turn}
+use Rattle.ledger.specs.Ledger.{Ledger, booked}
+use Rattle.ledger.specs.Frame.{replied}
+use Rattle.billing.specs.Entries.{Entry, entry, replyTo, ledgerBy, lastRecord, lastLedger}
+use Rattle.billing.proofs.Entries.{refused-through, refused-ledger, record-joined, ledger-joined}
+
+-- a word that is not begun
+not-begun : (word : Prim.Native.String.String) → word ≢ "begun" → eqt word "begun" ≡ false
+not-begun word n = by (eqt word "begun") refl
+  where
+    by : (b : Bool) → eqt word "begun" ≡ b → b ≡ false
+    by true e = absurd (n (eqt→eq word "begun" (subst T (sym e) tt)))
+    by false e = refl
+
+module _ (turn : Turn) (account other : ℕ) (d : Device) (l : Ledger) (low : account < 256) (also : other < 256) where
+  same-reply : replyTo (entry turn account) d l ≡ replyTo (entry turn other) d l
+  unfolding replied
+  same-reply = rw (lt-ltb account 256 low, lt-ltb other 256 also)
+
+  same-ledger : replyTo (entry turn account) d l .outcome ≢ "begun" → ledgerBy (entry turn account) d l ≡ ledgerBy (entry turn other) d l
+  unfolding booked
+  same-ledger n = rw (← same-reply, not-begun (replyTo (entry turn account) d l .outcome) n)
+
+-- what follows depends on the record and the ledger alone
+onward : (es : List Entry) (d also : Device) (l kept : Ledger) → d ≡ also → l ≡ kept
+    → (lastLedger es d l ≡ lastLedger es also kept) × (lastRecord es d l ≡ lastRecord es also kept)
+onward es d also l kept p q = (rw (p, q), rw (p, q))
+
+pub whoever-polls : (before after : List Entry) (turn : Turn) (account other : ℕ) (d : Device) (l : Ledger) → account < 256 → other < 256
+    → replyTo (entry turn account) (lastRecord before d l) (lastLedger before d l) .outcome ≢ "begun"
+    → (lastLedger (before ++ entry turn account ∷ after) d l ≡ lastLedger (before ++ entry turn other ∷ after) d l)
+    × (lastRecord (before ++ entry turn account ∷ after) d l ≡ lastRecord (before ++ entry turn other ∷ after) d l)
+unfolding lastLedger lastRecord
+whoever-polls before after turn account other d l low also n =
+    let same = same-reply turn account other (lastRecord before d l) (lastLedger before d l) low also in
+    let on = onward after _ _ _ _ (ap (λ (r : Reply). r .device) same) (same-ledger turn account other (lastRecord before d l) (lastLedger before d l) low also n) in (
+      ledger-joined before (entry turn account ∷ after) d l ∙ (on .0 ∙ sym (ledger-joined before (entry turn other ∷ after) d l)),
+      record-joined before (entry turn account ∷ after) d l ∙ (on .1 ∙ sym (record-joined before (entry turn other ∷ after) d l)),
+    )
+
+pub refused-changes-nothing : (before after : List Entry) (e : Entry) (d : Device) (l : Ledger)
+    → replyTo e (lastRecord before d l) (lastLedger before d l) .refusal ≢ 0
+    → (lastLedger (before ++ e ∷ after) d l ≡ lastLedger (before ++ after) d l) × (lastRecord (before ++ e ∷ after) d l ≡ lastRecord (before ++ after) d l)
+unfolding lastLedger lastRecord
+refused-changes-nothing before after e d l n =
+    let kept = ap (λ (r : Reply). r .device) (refused-through e (lastRecord before d l) (lastLedger before d l) n) in
+    let on = onward after _ _ _ _ kept (refused-ledger e (lastRecord before d l) (lastLedger before d l) n) in (
+      ledger-joined before (e ∷ after) d l ∙ (on .0 ∙ sym (ledger-joined before after d l)),
+      record-joined before (e ∷ after) d l ∙ (on .1 ∙ sym (record-joined before after d l)),
+    )

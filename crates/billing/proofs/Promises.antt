@@ -1,0 +1,52 @@
+-- What the ledger promises holds. Assumes nothing.
+use Prim.Native.Nat.{ℕ, _<_}
+use mathlib.Core.List.{List, map}
+use mathlib.Core.Path.{_≡_, refl, sym, ap, _∙_}
+use lib.ListN.{length, getD}
+use Rattle.memory.specs.Operations.{Operation}
+use Rattle.series.specs.Turns as turns
+use Rattle.series.specs.Turns.{Turn}
+use Rattle.series.specs.Series as series
+use Rattle.series.specs.Series.{State}
+use Rattle.series.specs.Bytes.{since, bytesAt, andAll, startAt}
+use Rattle.series.proofs.Promises as series-proofs
+use Rattle.ledger.specs.Frame.{Result}
+use Rattle.billing.specs.Series.{Booking, Desk, entriesOf, results, end, stepsThrough}
+use Rattle.billing.specs.Promises.{Promises, effects}
+use Rattle.billing.proofs.Bills.{from-empty, all-together}
+use Rattle.billing.proofs.Polls.{whoever-polls, refused-changes-nothing}
+use Rattle.billing.proofs.Memories.{as-the-part, as-computed, as-the-code-does, made, runs}
+
+never-from-stored-bytes : (bs also : List Booking) (t u : Desk) → entriesOf bs ≡ entriesOf also → t .state .device ≡ u .state .device → t .ledger ≡ u .ledger
+    → (map (λ (r : Result). r .reply) (results bs t) ≡ map (λ (r : Result). r .reply) (results also u)) × (end bs t .ledger ≡ end also u .ledger)
+    × (series.turnsOf (stepsThrough bs t) ≡ series.turnsOf (stepsThrough also u))
+never-from-stored-bytes bs also t u e d l = (
+  as-computed bs t .0 ∙ (rw (e, d, l) refl ∙ sym (as-computed also u .0)),
+  as-computed bs t .2 ∙ (rw (e, d, l) refl ∙ sym (as-computed also u .2)),
+  as-computed bs t .3 ∙ (rw (e, d, l) refl ∙ sym (as-computed also u .3)),
+)
+
+and-since-the-last-erase : (bs : List Booking) (t : Desk) (k : ℕ) → k < length (t .state .array)
+    → getD (end bs t .state .array) k 0
+    ≡ andAll (startAt (effects (entriesOf bs) (t .state .device) (t .ledger)) k (getD (t .state .array) k 0))
+    (bytesAt (since (effects (entriesOf bs) (t .state .device) (t .ledger)) k) k)
+and-since-the-last-erase bs t k low =
+    ap (λ (s : State). getD (s .array) k 0) (as-the-part bs t) ∙
+    (series-proofs.promises .and-since-the-last-erase (stepsThrough bs t) (t .state) k low ∙
+    ap (λ (ts : List Turn). let os = turns.operations ts (t .state .device) in andAll (startAt os k (getD (t .state .array) k 0)) (bytesAt (since os k) k))
+    (as-computed bs t .3))
+
+pub promises : Promises
+promises =
+    record {
+      billed-to-the-beginner = from-empty;
+      all-together = all-together;
+      whoever-polls = whoever-polls;
+      refused-changes-nothing = refused-changes-nothing;
+      as-the-part = as-the-part;
+      as-computed = as-computed;
+      never-from-stored-bytes = never-from-stored-bytes;
+      and-since-the-last-erase = and-since-the-last-erase;
+      as-the-code-does = as-the-code-does;
+      can-be-run = λ bs t. (made bs t, runs bs t);
+    }

@@ -1,0 +1,4 @@
+pub mod Entries
+pub mod Operations
+pub mod Series
+pub mod Promises

@@ -1,0 +1,1 @@
+// Series of calls through the ledger: definitions and proofs, no code.

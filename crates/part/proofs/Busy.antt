@@ -1,0 +1,137 @@
+-- The busy ticks that a call leaves are those that its outcome tells. Assumes nothing.
+use Prim.Native.Nat.{ℕ, _-_, _*_, _≤_}
+use mathlib.Core.Bool.{Bool, true, false, true≢false, false≢true, cond, not, _&&_, and-true, and-false, and-eq-true-iff}
+use mathlib.Core.Path.{_≡_, refl, sym, ap, subst, _∙_}
+use native.Mathlib.Nat.{sub-add-eq}
+use native.Mathlib.Omega.{arith}
+use borrow.Author.Tests.{ltb-false}
+use lib.Dec.{ltb, eqb}
+use lib.Text.{eqt}
+use Rattle.opcodes.specs.declared.Command.{Command}
+use Rattle.opcodes.specs.declared.Command.the-variants.{Orders, Works}
+use Rattle.opcodes.specs.declared.Order.{Order}
+use Rattle.opcodes.specs.declared.Order.the-variants.{Enable, Disable, DeepPowerDown, UltraDeepPowerDown, Resume, Reset}
+use Rattle.opcodes.specs.declared.Work.{Work}
+use Rattle.opcodes.specs.Rows.{rowOf}
+use Rattle.opcodes.specs.Rule.{ruleOf}
+use Rattle.opcodes.proofs.Table.{rule-kept}
+use Rattle.sheet.specs.declared.device.Device.{Device}
+use Rattle.sheet.specs.declared.device.Mode.{Mode}
+use Rattle.sheet.specs.declared.device.Mode.the-variants.{Awake, Deep, UltraDeep}
+use Rattle.settings.specs.declared.Settings.{Settings}
+use Rattle.sheet.specs.declared.judge.Facts.{Facts}
+use Rattle.sheet.specs.declared.judge.Judged.{Judged}
+use Rattle.sheet.specs.declared.judge.Outcome.{Outcome}
+use Rattle.sheet.specs.Device.{awake, deep, ultraDeep, reset}
+use Rattle.sheet.specs.Judging.{nothing, control, ordered, carried, judged}
+use Rattle.sheet.proofs.Leaves.{Heard, each-answer, full-duration}
+use Rattle.lent.specs.declared.refusal.Lengths.{Lengths}
+use Rattle.lent.specs.Refusal.{bytesFor}
+use Rattle.part.specs.Words.{wordOf}
+use Rattle.part.specs.Frame.{Call, Reply, numberFor, timed, risen, factsOf, judgedOf, answered, refused, replied}
+use Rattle.part.specs.Busy.{isReset, resets, durationOf, busyAfter}
+use Rattle.part.proofs.Answers.{word-tells, refusal-is}
+
+-- an operation is begun by a part that was idle at the first bit; whatever else is answered leaves the ticks at the rise, but a reset none
+abbrev Kept : Device → Facts → Judged → Type 0
+Kept d f j =
+    (eqt (wordOf (j .outcome)) "begun" ≡ true → f .busy ≡ false)
+    × (eqt (wordOf (j .outcome)) "begun" ≡ false
+    → j .device .busy ≡ cond (awake (d .mode) && (isReset (rowOf (f .code) .command) && eqt (wordOf (j .outcome)) "control")) 0 (d .busy))
+
+module _ (d : Device) (s : Settings) (f : Facts) where
+  abbrev command : Command
+  command = rowOf (f .code) .command
+
+  none : {A : Type 0} → false ≡ true → A
+  none c = absurd (false≢true c)
+
+  -- an outcome that is not control is no reset
+  uncontrolled : d .busy ≡ cond (awake (d .mode) && (isReset command && false)) 0 (d .busy)
+  uncontrolled = rw (and-false (isReset command), and-false (awake (d .mode)))
+
+  -- nor is one of a part that sleeps
+  asleep : awake (d .mode) ≡ false → d .busy ≡ cond (awake (d .mode) && (isReset command && true)) 0 (d .busy)
+  asleep e = rw e
+
+  -- nor is another command
+  other : isReset command ≡ false → d .busy ≡ cond (awake (d .mode) && (isReset command && true)) 0 (d .busy)
+  other e = rw (e, and-false (awake (d .mode)))
+
+  deep-sleeps : (m : Mode) → deep m ≡ true → awake m ≡ false
+  deep-sleeps Awake e = none e
+  deep-sleeps Deep e = refl
+  deep-sleeps UltraDeep e = refl
+
+  ultra-sleeps : (m : Mode) → ultraDeep m ≡ true → awake m ≡ false
+  ultra-sleeps Awake e = none e
+  ultra-sleeps Deep e = refl
+  ultra-sleeps UltraDeep e = refl
+
+  of-order : (order : Order) → command ≡ Orders order → Heard d f → Kept d f (ordered order d f)
+  of-order Enable e h = (none, λ n. other (ap isReset e))
+  of-order Disable e h = (none, λ n. other (ap isReset e))
+  of-order DeepPowerDown e h = (none, λ n. other (ap isReset e))
+  of-order UltraDeepPowerDown e h = (none, λ n. other (ap isReset e))
+  of-order Resume e h = (none, λ n. uncontrolled)
+  of-order Reset e h = by (d .rste && eqb (f .second) 0xD0)
+    where
+      by : (b : Bool) → Kept d f (cond b (control (reset d)) (nothing d))
+      by true = (none, λ n. rw (h .up, e))
+      by false = (none, λ n. uncontrolled)
+
+  idle-work : (work : Work) → command ≡ Works work → Heard d f → f .busy ≡ false
+  idle-work work e h =
+      let r = rowOf (f .code) in
+      let kept : ruleOf (Works work) r ≡ true = subst (λ (c : Command). ruleOf c r ≡ true) e (rule-kept (f .code)) in
+      let ignored = and-eq-true-iff (r .boundary && r .latch) (not (r .busy)) .0 (and-eq-true-iff _ (eqb (r .most) 0) .0 kept .0) .1 in
+      by (r .busy) ignored (h .answers)
+    where
+      by : (b : Bool) → not b ≡ true → (f .busy && not b) ≡ false → f .busy ≡ false
+      by true n a = none n
+      by false n a = sym (and-true (f .busy)) ∙ a
+
+  of-work : (work : Work) → command ≡ Works work → Heard d f → Kept d f (carried work d s f)
+  of-work Work.Program e h = (λ c. idle-work Work.Program e h, λ n. absurd (true≢false n))
+  of-work (Work.Erase region) e h = (λ c. idle-work (Work.Erase region) e h, λ n. absurd (true≢false n))
+  of-work Work.Otp e h = (λ c. idle-work Work.Otp e h, λ n. absurd (true≢false n))
+  of-work Work.WriteStatus e h = (λ c. idle-work Work.WriteStatus e h, λ n. absurd (true≢false n))
+  of-work Work.WriteStatusTwo e h = (none, λ n. other (ap isReset e))
+
+  kept : Kept d f (judged d s f)
+  kept =
+      each-answer d s f (Kept d f) (none, λ n. uncontrolled) (λ u. (none, λ n. asleep (ultra-sleeps (d .mode) u)))
+      (λ e. (none, λ n. asleep (deep-sleeps (d .mode) e))) (none, λ n. uncontrolled) (λ source e. (none, λ n. uncontrolled)) of-order
+      (λ work e h b. of-work work e h)
+
+is-begun : (o : Outcome) → eqt (wordOf o) "begun" ≡ true → o ≡ Outcome.Begun
+is-begun Outcome.Nothing e = absurd (false≢true e)
+is-begun Outcome.Read e = absurd (false≢true e)
+is-begun Outcome.Control e = absurd (false≢true e)
+is-begun Outcome.Aborted e = absurd (false≢true e)
+is-begun Outcome.Begun e = refl
+
+module _ (c : Call) (lengths : Lengths) where
+  -- a frame begins an operation only if no busy tick was left at its first bit
+  pub begun-idle : replied c lengths .outcome ≡ "begun" → c .device .busy ≤ c .signals .elapsed
+  unfolding replied judgedOf
+  begun-idle e = by (eqb (numberFor c lengths) 0) e
+    where
+      by : (b : Bool) → cond b (answered (judgedOf c)) (refused (numberFor c lengths) (c .device)) .outcome ≡ "begun" → c .device .busy ≤ c .signals .elapsed
+      by true e =
+          let still : ltb 0 (c .device .busy - c .signals .elapsed) ≡ false = kept (risen c) (c .settings) (factsOf c) .0 (ap (λ w. eqt w "begun") e) in
+          let left = ltb-false 0 (c .device .busy - c .signals .elapsed) still in
+          omega arith
+      by false e = absurd (true≢false (ap (λ w. eqt w "nothing") e))
+
+  -- what an accepted call leaves
+  pub busy-is : replied c lengths .refusal ≡ 0 → replied c lengths .device .busy ≡ busyAfter c (replied c lengths)
+  unfolding replied judgedOf
+  busy-is e = rw (sym (refusal-is c lengths) ∙ e) (by (eqt (wordOf (judgedOf c .outcome)) "begun") refl)
+    where
+      by : (b : Bool) → eqt (wordOf (judgedOf c .outcome)) "begun" ≡ b → judgedOf c .device .busy ≡ busyAfter c (answered (judgedOf c))
+      by true w = rw w (full-duration (risen c) (c .settings) (factsOf c) (is-begun (judgedOf c .outcome) w))
+      by false w =
+          rw w
+          (kept (risen c) (c .settings) (factsOf c) .1 w ∙
+          ap (λ (left : ℕ). cond (resets c (answered (judgedOf c))) 0 left) (sym (sub-add-eq (c .device .busy) (c .signals .elapsed) (bytesFor (c .signals .bits) * c .signals .pace))))
