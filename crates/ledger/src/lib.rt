@@ -62,14 +62,14 @@ pub fn nobody() -> Running
     }
 }
 
-// All bits that the words of a table have among them.
-fn gathered(table: &[u64; 256]) -> u64
-    ensures { λ r. ⌜ (r ≤ spec.limit → spec.anyAbove (now (table .entry)) ≡ false) ⌝ }
+// All bits that the words of two tables have among them.
+fn gathered<'a>(table: &'a [u64; 256], also: &'a [u64; 256]) -> u64
+    ensures { λ r. ⌜ (r ≤ spec.limit → (spec.anyAbove (now (table .entry)) ≡ false) × (spec.anyAbove (now (also .entry)) ≡ false)) ⌝ }
 {
     let mut all = 0;
     let mut i = 0;
     while i < 256 {
-        all = all | table[i];
+        all = all | (table[i] | also[i]);
         i += 1;
     }
     all
@@ -89,14 +89,14 @@ fn has_above(table: &[u64; 256]) -> bool
     false
 }
 
-// Whether any is. Where all bits together are not above it, none is.
-fn is_above(table: &[u64; 256]) -> bool
-    ensures { λ r. ⌜ r ≡ spec.anyAbove (now (table .entry)) ⌝ }
+// Whether any word of two tables is. Where all their bits together are not above the limit, none is.
+fn any_above<'a>(table: &'a [u64; 256], also: &'a [u64; 256]) -> bool
+    ensures { λ r. ⌜ r ≡ spec.anyAbove (now (table .entry)) || spec.anyAbove (now (also .entry)) ⌝ }
 {
-    if gathered(table) <= LIMIT {
+    if gathered(table, also) <= LIMIT {
         return false;
     }
-    has_above(table)
+    has_above(table) | has_above(also)
 }
 
 // Whether the ledger is shut to a call of this account.
@@ -106,10 +106,7 @@ fn is_shut<'a>(account: u64, totals: &'a [u64; 256], numbers: &'a [u64; 256]) ->
     if ACCOUNTS <= account {
         return true;
     }
-    if is_above(totals) {
-        return true;
-    }
-    is_above(numbers)
+    any_above(totals, numbers)
 }
 
 // What comes off the busy ticks when ticks elapse and so many positions each take the pace. The product is formed where it fits.

@@ -10,9 +10,9 @@ use Rattle.part.specs.Frame.{Call, Lent, lengthsOf, numberFor, replied, frame}
 use Rattle.part.proofs.Answers.{refusal-is, not-accepted, numbered}
 use Rattle.packing.specs.Packing.{packed}
 use Rattle.packing.proofs.Records.{same-words, same-durations, is-record, same-record}
-use Rattle.oxterin.specs.Face.{Handed, isCall, callOf, told, unread, faced}
+use Rattle.framewords.specs.Words.{Handed, isCall, callOf, told, unread, faced}
 use Rattle.oxterin.specs.Promises.{Promises}
-use Rattle.oxterin.proofs.Words.{record-read}
+use Rattle.framewords.proofs.Words.{record-read}
 use Rattle.hexwords.proofs.Kept.{text-kept, array-kept}
 
 -- the two ways of a call

@@ -7,7 +7,7 @@ use mathlib.Core.Path.{_≡_}
 use Rattle.sheet.specs.declared.device.Device.{Device}
 use Rattle.part.specs.Frame.{Lent, frame}
 use Rattle.packing.specs.Packing.{packed, isRecord, deviceOf, isSettings, settingsOf}
-use Rattle.oxterin.specs.Face.{Handed, isCall, callOf, left, told, faced}
+use Rattle.framewords.specs.Words.{Handed, isCall, callOf, left, told, faced}
 use Rattle.hexwords.specs.Words.{textOut, textIn}
 
 pub record Promises : Type 0 where

@@ -1,42 +1,37 @@
 // The face to C and Rust: plain numbers and slices, each function a thin call. Words that stand for nothing, such as a slice of another
 // length, a flag that is neither 0 nor 1, or a mode that does not exist, are answered with 255, and then nothing changes.
+use framewords::send;
 use hexwords::read_text;
 use hexwords::write_text;
+use ledgerwords::report;
+use ledgerwords::send_for;
 use look::look;
 use look::look_start;
-use packing::UNREAD;
 use packing::device_of;
 use packing::is_record;
-use packing::is_settings;
-use packing::is_signals;
 use packing::memory_of;
-use packing::outcome_number;
 use packing::pack;
-use packing::settings_of;
-use packing::signals_of;
 use packing::wide;
 use packing::write;
-use part::frame::Answer;
-use part::frame::frame;
 use settings::Settings;
 use sheet::device::Device;
 use status::status_one;
 use status::status_two;
-ghost use mathlib.Core.Bool.{true};
 ghost use mathlib.Core.Path.{_≡_};
 ghost use lib.ListN.{length};
-ghost use Rattle.part.specs.Frame as spec;
-ghost use Rattle.part.specs.Frame.{lent, replyOf};
+ghost use Rattle.part.specs.Frame.{lent};
+ghost use Rattle.framewords.specs.Words as words;
+ghost use Rattle.ledgerwords.specs.Words as ledger;
 ghost use Rattle.oxterin.specs.Face as face;
 ghost use Rattle.hexwords.specs.Words.{spoken, textOut, textIn};
-ghost use Rattle.packing.specs.Packing.{packed, isSettings, answerOf, numberIf, writtenIf};
+ghost use Rattle.packing.specs.Packing.{isSettings, numberIf, writtenIf};
 
 // The version of this face.
 #[no_mangle]
 pub extern "C" fn oxterin_version() -> u64
     ensures { λ r. ⌜ r ≡ face.version ⌝ }
 {
-    1002000
+    1003000
 }
 
 // A fresh record, from BPL, BP0 and the OTP-used mark.
@@ -102,54 +97,6 @@ pub extern "C" fn oxterin_look<'a>(
     write(memory < 2, place, &words)
 }
 
-// What came back, as words: the record's, the answer's, and the number of the refusal.
-fn reply(answered: Answer, device: &mut [u64], answer: &mut [u64]) -> u64
-    requires { ⌜ (length (now device) ≡ 7) × (length (now answer) ≡ 3) ⌝ }
-    ensures { λ r. ⌜ r ≡ replyOf answered .refusal ⌝ }
-    ensures { λ _. ⌜ now (device .exit) ≡ packed (replyOf answered .device) ⌝ }
-    ensures { λ _. ⌜ now (answer .exit) ≡ answerOf (replyOf answered) ⌝ }
-{
-    let after = answered.device;
-    let words = pack(after);
-    write(true, device, &words);
-    let outcome = answered.outcome;
-    let numbers = [
-        outcome_number(outcome),
-        answered.first as u64,
-        answered.driven as u64,
-    ];
-    write(true, answer, &numbers);
-    let refusal = answered.refusal;
-    wide(refusal.number())
-}
-
-// A frame whose words all stand for something.
-fn told(
-    device: &mut [u64],
-    settings: &[u64],
-    signals: &[u64],
-    array: &mut [u8],
-    register: &mut [u8],
-    input: &[u8],
-    output: &mut [u8],
-    answer: &mut [u64],
-) -> u64
-    requires { ⌜ face.isCall (face.handed (now device) (now settings) (now signals) (now input) (now answer)) ≡ true ⌝ }
-    ensures { λ r. ⌜
-        face.left r (now (device .exit)) (now (answer .exit)) (lent (now (array .exit)) (now (register .exit)) (now (output .exit))) ≡
-        face.told
-        (spec.frame
-        (face.callOf (face.handed (now (device .entry)) (now (settings .entry)) (now (signals .entry)) (now (input .entry)) (now (answer .entry))))
-        (lent (now (array .entry)) (now (register .entry)) (now (output .entry))))
-        ⌝ }
-{
-    let known = device_of(device);
-    let durations = settings_of(settings);
-    let levels = signals_of(signals);
-    let answered = frame(known, durations, array, register, input, levels, output);
-    reply(answered, device, answer)
-}
-
 // One call, one chip-select frame: its number is the refusal's, 0 if the call is accepted. The record's words become those of the record
 // as it then stands.
 #[no_mangle]
@@ -164,25 +111,85 @@ pub extern "C" fn oxterin_frame(
     answer: &mut [u64],
 ) -> u64
     ensures { λ r. ⌜
-        face.left r (now (device .exit)) (now (answer .exit)) (lent (now (array .exit)) (now (register .exit)) (now (output .exit))) ≡
-        face.faced
-        (face.handed (now (device .entry)) (now (settings .entry)) (now (signals .entry)) (now (input .entry)) (now (answer .entry)))
+        words.left r (now (device .exit)) (now (answer .exit)) (lent (now (array .exit)) (now (register .exit)) (now (output .exit))) ≡
+        words.faced
+        (words.handed (now (device .entry)) (now (settings .entry)) (now (signals .entry)) (now (input .entry)) (now (answer .entry)))
         (lent (now (array .entry)) (now (register .entry)) (now (output .entry)))
         ⌝ }
 {
-    if is_record(device) & is_settings(settings) & is_signals(signals) & (answer.len() == 3) {
-        return told(
-            device,
-            settings,
-            signals,
-            array,
-            register,
-            input,
-            output,
-            answer,
-        );
-    }
-    UNREAD
+    send(
+        device,
+        settings,
+        signals,
+        array,
+        register,
+        input,
+        output,
+        answer,
+    )
+}
+
+// The same for an account, through the ledger: its tables have 256 words each, and the two words of the running operation are its account
+// and what it was billed so far.
+#[no_mangle]
+pub extern "C" fn oxterin_ledger_frame(
+    device: &mut [u64],
+    settings: &[u64],
+    signals: &[u64],
+    array: &mut [u8],
+    register: &mut [u8],
+    input: &[u8],
+    output: &mut [u8],
+    answer: &mut [u64],
+    account: u64,
+    running: &mut [u64],
+    totals: &mut [u64; 256],
+    most: &mut [u64; 256],
+    numbers: &mut [u64; 256],
+) -> u64
+    ensures { λ r. ⌜
+        ledger.leftFor
+        (words.left r (now (device .exit)) (now (answer .exit)) (lent (now (array .exit)) (now (register .exit)) (now (output .exit))))
+        (now (running .exit)) (now (totals .exit)) (now (most .exit)) (now (numbers .exit)) ≡
+        ledger.faced
+        (words.handed (now (device .entry)) (now (settings .entry)) (now (signals .entry)) (now (input .entry)) (now (answer .entry)))
+        (ledger.ticket account (now (running .entry)) (now (totals .entry)) (now (most .entry)) (now (numbers .entry)))
+        (lent (now (array .entry)) (now (register .entry)) (now (output .entry)))
+        ⌝ }
+{
+    send_for(
+        device,
+        settings,
+        signals,
+        array,
+        register,
+        input,
+        output,
+        answer,
+        account,
+        running,
+        totals,
+        most,
+        numbers,
+    )
+}
+
+// The report on an account, three words: its total, the most ticks billed for one of its operations, and the number of its operations.
+#[no_mangle]
+pub extern "C" fn oxterin_report<'a>(
+    totals: &'a [u64; 256],
+    most: &'a [u64; 256],
+    numbers: &'a [u64; 256],
+    account: u64,
+    line: &mut [u64],
+) -> u64
+    ensures { λ r. ⌜ r ≡ ledger.reportNumber account (now (line .entry)) ⌝ }
+    ensures { λ _. ⌜
+        now (line .exit) ≡
+        ledger.reportWords account (now (totals .entry)) (now (most .entry)) (now (numbers .entry)) (now (line .entry))
+        ⌝ }
+{
+    report(totals, most, numbers, account, line)
 }
 
 // An array as Intel HEX text: the number of the refusal, 0 if the text was written. The word becomes the number of characters.

@@ -20,7 +20,7 @@ pub fn wide(byte: u8) -> u64
 }
 
 // The word at a place, or 0 if there are fewer.
-fn word(words: &[u64], place: usize) -> u64
+pub fn word(words: &[u64], place: usize) -> u64
     ensures { λ r. ⌜ r ≡ getD (now (words .entry)) place 0 ⌝ }
 {
     if place < words.len() {

@@ -1,10 +1,10 @@
--- `oxterin::oxterin_frame` meets its contract: words that stand for a call are told, others change nothing. Assumes nothing.
+-- `framewords::send` meets its contract: words that stand for a call are told, others change nothing. Assumes nothing.
 use borrow.Author.Needs.{needs}
 use mathlib.Core.Bool.{true}
 use mathlib.Core.Path.{_≡_}
-use Rattle.oxterin.specs.Face.{Handed, handed, isCall, faced}
-use Rattle.oxterin.proofs.oxterin_frame.Statement.{statement}
-use Rattle.oxterin.proofs.oxterin_frame.Tie as tie
+use Rattle.framewords.specs.Words.{Handed, handed, isCall, faced}
+use Rattle.framewords.proofs.send.Statement.{statement}
+use Rattle.framewords.proofs.send.Tie as tie
 
 abbrev handedAt : tie.Start → Handed
 handedAt a = handed (a .args .device .now) (a .args .settings .now) (a .args .signals .now) (a .args .input .now) (a .args .answer .now)
@@ -24,8 +24,8 @@ returns-2 : tie.Need-returns-2
 unfolding faced
 returns-2 c = rw (← c .before .is-signals .ensures, ← c .before .before .is-settings .ensures, ← c .before .before .before .is-record .ensures, c .if1 .left)
 
-pub oxterin-frame-spec : {M : Type 1} → statement M
-oxterin-frame-spec =
+pub send-spec : {M : Type 1} → statement M
+send-spec =
     tie.close
     (tie.spec
     (λ c κs. search needs)

@@ -12,7 +12,7 @@ use Rattle.part.specs.declared.frame.Answer.{Answer}
 use Rattle.part.specs.Frame.{Lent, call, frame, replyOf, Meets}
 use Rattle.packing.specs.Packing.{packed, isRecord, deviceOf, isSettings, settingsOf, isSignals, signalsOf, isAnswer, answerOf}
 use Rattle.packing.proofs.Records.{record-right}
-use Rattle.oxterin.specs.Face.{Handed, isCall, callOf, left, told}
+use Rattle.framewords.specs.Words.{Handed, isCall, callOf, left, told}
 
 -- the four tests of a call
 tests : (h : Handed) → isCall h ≡ true → ((isRecord (h .device) ≡ true) × (isSettings (h .settings) ≡ true)) × (isAnswer (length (h .answer)) ≡ true)

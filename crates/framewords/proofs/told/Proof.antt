@@ -1,10 +1,12 @@
--- `oxterin::told` meets its contract: the frame is told as words. Assumes nothing.
+-- `framewords::told` meets its contract: the frame is told as words. Assumes nothing.
+use mathlib.Core.Path.{_∙_}
 use borrow.Author.Needs.{needs}
+use borrow.Author.Tests.{eq-eqb}
 use Rattle.part.specs.Frame.{Lent, lent}
-use Rattle.oxterin.specs.Face.{Handed, handed}
-use Rattle.oxterin.proofs.Words.{long, as-told}
-use Rattle.oxterin.proofs.told.Statement.{statement}
-use Rattle.oxterin.proofs.told.Tie as tie
+use Rattle.framewords.specs.Words.{Handed, handed}
+use Rattle.framewords.proofs.Words.{long, as-told}
+use Rattle.framewords.proofs.told.Statement.{statement}
+use Rattle.framewords.proofs.told.Tie as tie
 
 abbrev handedAt : tie.Start → Handed
 handedAt a = handed (a .args .device .now) (a .args .settings .now) (a .args .signals .now) (a .args .input .now) (a .args .answer .now)
@@ -12,18 +14,13 @@ handedAt a = handed (a .args .device .now) (a .args .settings .now) (a .args .si
 abbrev lentAt : tie.Start → Lent
 lentAt a = lent (a .args .array .now) (a .args .register .now) (a .args .output .now)
 
-reply-requires : tie.Need-reply-requires
-reply-requires c κs =
-    let a = c .before .before .before .before .before .before .before .before .before .before .before .before .before .before .before .before .before .before .before .before .before .before .before .before in
-    long (handedAt a) (a .pre)
-
 returns : tie.Need-returns
 returns c =
     let framed = c .before .before .before .before .before .before .before .before .before .before .before .before .before in
     let replied = c .before .before .before .before .reply .ensures in
     let a = framed .before .before .before .before .before .before .before .before .before .before .before .before .before .before .before .before in
     as-told (handedAt a) (lentAt a) _ _ _ _ (framed .frame .result) _ _ _ (framed .before .before .before .before .before .before .device-of .ensures) (framed .before .before .before .before .before .settings-of .ensures)
-    (framed .before .before .before .before .signals-of .ensures) (framed .frame .ensures) (replied .0) (replied .1 .0) (replied .1 .1)
+    (framed .before .before .before .before .signals-of .ensures) (framed .frame .ensures) (replied .0) (replied .1 .0 ∙ rw (eq-eqb _ 7 (long (handedAt a) (a .pre) .0))) (replied .1 .1 ∙ rw (eq-eqb _ 3 (long (handedAt a) (a .pre) .1)))
 
 pub told-spec : {M : Type 1} → statement M
 told-spec =
@@ -33,7 +30,7 @@ told-spec =
     (λ c κs. search needs)
     (λ c κs. search needs)
     (λ c κs. search needs)
-    reply-requires
+    (λ c κs. search needs)
     (λ c. search needs)
     (λ c. search needs)
     (λ c. search needs)

@@ -1,0 +1,32 @@
+-- What is known of words that stand for a call through the ledger. Assumes nothing.
+use Prim.Native.Nat.{ℕ}
+use mathlib.Core.Bool.{true, and-eq-true-iff}
+use mathlib.Core.List.{List}
+use mathlib.Core.Path.{_≡_, ap}
+use borrow.Author.Tests.{eqb-true}
+use lib.ListN.{length}
+use Rattle.settings.specs.declared.Settings.{Settings}
+use Rattle.sheet.specs.declared.device.Device.{Device}
+use Rattle.input.specs.declared.Signals.{Signals}
+use Rattle.part.specs.Frame.{Lent, call, replyOf}
+use Rattle.ledger.specs.declared.Booked.{Booked}
+use Rattle.ledger.specs.declared.Running.{Running}
+use Rattle.ledger.specs.Ledger.{ledger}
+use Rattle.ledger.specs.Frame.{frame, Meets}
+use Rattle.packing.specs.Packing.{packed, deviceOf, settingsOf, signalsOf, answerOf}
+use Rattle.framewords.specs.Words.{Handed, isCall, callOf, left}
+use Rattle.ledgerwords.specs.Words.{Ticket, isRunning, runningOf, runningWords, ledgerOf, isCallFor, leftFor, told}
+
+-- they stand for a call of the part, and the running operation has its two words
+pub stands : (h : Handed) (k : Ticket) → isCallFor h k ≡ true → (isCall h ≡ true) × (length (k .running) ≡ 2)
+stands h k right = let both = and-eq-true-iff (isCall h) (isRunning (k .running)) .0 right in (both .0, eqb-true _ _ (both .1))
+
+-- a frame's result, told as words, is the face's
+pub as-told-for : (h : Handed) (k : Ticket) (m n : Lent) (d : Device) (s : Settings) (g : Signals) (before : Running) (a : Booked) (number : ℕ)
+    (device answer running totals most numbers : List ℕ) → d ≡ deviceOf (h .device) → s ≡ settingsOf (h .settings) → g ≡ signalsOf (h .signals)
+    → before ≡ runningOf (k .running)
+    → Meets (call d s (h .input) g) m (k .account) (ledger (k .totals) (k .most) (k .numbers) before) (replyOf (a .answer)) n (ledger totals most numbers (a .running))
+    → number ≡ replyOf (a .answer) .refusal → device ≡ packed (replyOf (a .answer) .device) → answer ≡ answerOf (replyOf (a .answer))
+    → running ≡ runningWords (a .running)
+    → leftFor (left number device answer n) running totals most numbers ≡ told (frame (callOf h) m (k .account) (ledgerOf k))
+as-told-for h k m n d s g before a number device answer running totals most numbers p q t w e x y z v = rw (x, y, z, v, ← p, ← q, ← t, ← w) (ap told e)

@@ -1,0 +1,75 @@
+-- A frame through the ledger by words, and the report on an account. Words that stand for nothing are answered with 255, and then nothing
+-- changes. Assumes nothing.
+use Prim.Native.Nat.{ℕ}
+use mathlib.Core.Bool.{Bool, cond, _&&_}
+use mathlib.Core.List.{List, [], _∷_}
+use lib.Dec.{eqb}
+use lib.ListN.{length, getD}
+use Rattle.lent.specs.Refusal.{numberOf}
+use Rattle.part.specs.Frame.{Lent}
+use Rattle.ledger.specs.declared.Running.{Running}
+use Rattle.ledger.specs.Ledger.{Ledger, ledger, runs, isAccount, reported}
+use Rattle.ledger.specs.Frame.{Result, frame}
+use Rattle.packing.specs.Packing.{writtenIf}
+use Rattle.framewords.specs.Words as plain
+use Rattle.framewords.specs.Words.{Handed, Left, isCall, callOf}
+
+-- the running operation, two words: its account, and what it was billed so far
+abbrev pub isRunning : List ℕ → Bool
+isRunning ws = eqb (length ws) 2
+
+abbrev pub runningOf : List ℕ → Running
+runningOf ws = runs (getD ws 0 0) (getD ws 1 0)
+
+abbrev pub runningWords : Running → List ℕ
+runningWords r = r .account ∷ r .billed ∷ []
+
+-- what is handed over beside a frame's: the account, the running operation's words and the three tables
+pub record Ticket : Type 0 where
+  pub account : ℕ
+  pub running : List ℕ
+  pub totals : List ℕ
+  pub most : List ℕ
+  pub numbers : List ℕ
+
+abbrev pub ticket : ℕ → List ℕ → List ℕ → List ℕ → List ℕ → Ticket
+ticket account running totals most numbers = record { account = account; running = running; totals = totals; most = most; numbers = numbers }
+
+abbrev pub ledgerOf : Ticket → Ledger
+ledgerOf k = ledger (k .totals) (k .most) (k .numbers) (runningOf (k .running))
+
+-- whether the words stand for a call
+abbrev pub isCallFor : Handed → Ticket → Bool
+isCallFor h k = isCall h && isRunning (k .running)
+
+-- what is left: a frame's, and the ledger's words
+pub record LeftFor : Type 0 where
+  pub frame : Left
+  pub running : List ℕ
+  pub totals : List ℕ
+  pub most : List ℕ
+  pub numbers : List ℕ
+
+abbrev pub leftFor : Left → List ℕ → List ℕ → List ℕ → List ℕ → LeftFor
+leftFor frame running totals most numbers = record { frame = frame; running = running; totals = totals; most = most; numbers = numbers }
+
+-- the result of a frame through the ledger, as words
+abbrev pub told : Result → LeftFor
+told r =
+    leftFor (plain.told (record { reply = r .reply; lent = r .lent })) (runningWords (r .ledger .running)) (r .ledger .totals) (r .ledger .most)
+    (r .ledger .numbers)
+
+-- words that stand for nothing: 255, and all is as it was
+abbrev pub unread : Handed → Ticket → Lent → LeftFor
+unread h k m = leftFor (plain.unread h m) (k .running) (k .totals) (k .most) (k .numbers)
+
+unfoldable pub faced : Handed → Ticket → Lent → LeftFor
+faced h k m = cond (isCallFor h k) (told (frame (callOf h) m (k .account) (ledgerOf k))) (unread h k m)
+
+-- the report: 255 if there is not just room for three words, else 0, or 9 for an account over 255; the words are written if it is 0
+abbrev pub reportNumber : ℕ → List ℕ → ℕ
+reportNumber account line = cond (eqb (length line) 3) (cond (isAccount account) 0 9) 255
+
+abbrev pub reportWords : ℕ → List ℕ → List ℕ → List ℕ → List ℕ → List ℕ
+reportWords account totals most numbers line =
+    writtenIf (isAccount account && eqb (length line) 3) (getD totals account 0 ∷ getD most account 0 ∷ getD numbers account 0 ∷ []) line

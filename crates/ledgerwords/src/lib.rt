@@ -1,0 +1,175 @@
+// Frames through the ledger, and its report, for callers that have only numbers and memories: words that stand for nothing are answered
+// with 255, and then nothing changes.
+use framewords::reply;
+use ledger::Running;
+use ledger::frame_for;
+use packing::UNREAD;
+use packing::device_of;
+use packing::is_record;
+use packing::is_settings;
+use packing::is_signals;
+use packing::settings_of;
+use packing::signals_of;
+use packing::wide;
+use packing::word;
+use packing::write;
+ghost use mathlib.Core.Bool.{true};
+ghost use mathlib.Core.Path.{_≡_};
+ghost use lib.Dec.{eqb};
+ghost use lib.ListN.{length};
+ghost use Rattle.part.specs.Frame.{lent};
+ghost use Rattle.packing.specs.Packing.{writtenIf};
+ghost use Rattle.framewords.specs.Words.{handed, left, callOf};
+ghost use Rattle.ledger.specs.Frame as through;
+ghost use Rattle.ledgerwords.specs.Words as words;
+
+fn running_of(running: &[u64]) -> Running
+    ensures { λ r. ⌜ r ≡ words.runningOf (now (running .entry)) ⌝ }
+{
+    Running {
+        account: word(running, 0),
+        billed: word(running, 1),
+    }
+}
+
+// The running operation's words, where there is just room for them.
+fn put_running(after: Running, running: &mut [u64])
+    ensures { λ _. ⌜
+        now (running .exit) ≡ writtenIf (eqb (length (now (running .entry))) 2) (words.runningWords after) (now (running .entry))
+        ⌝ }
+{
+    let numbers = [after.account, after.billed];
+    write(true, running, &numbers);
+}
+
+// A frame whose words all stand for something.
+fn told_for(
+    device: &mut [u64],
+    settings: &[u64],
+    signals: &[u64],
+    array: &mut [u8],
+    register: &mut [u8],
+    input: &[u8],
+    output: &mut [u8],
+    answer: &mut [u64],
+    account: u64,
+    running: &mut [u64],
+    totals: &mut [u64; 256],
+    most: &mut [u64; 256],
+    numbers: &mut [u64; 256],
+) -> u64
+    requires { ⌜
+        words.isCallFor (handed (now device) (now settings) (now signals) (now input) (now answer))
+        (words.ticket account (now running) (now totals) (now most) (now numbers)) ≡ true
+        ⌝ }
+    ensures { λ r. ⌜
+        words.leftFor
+        (left r (now (device .exit)) (now (answer .exit)) (lent (now (array .exit)) (now (register .exit)) (now (output .exit))))
+        (now (running .exit)) (now (totals .exit)) (now (most .exit)) (now (numbers .exit)) ≡
+        words.told
+        (through.frame
+        (callOf (handed (now (device .entry)) (now (settings .entry)) (now (signals .entry)) (now (input .entry)) (now (answer .entry))))
+        (lent (now (array .entry)) (now (register .entry)) (now (output .entry))) account
+        (words.ledgerOf
+        (words.ticket account (now (running .entry)) (now (totals .entry)) (now (most .entry)) (now (numbers .entry)))))
+        ⌝ }
+{
+    let known = device_of(device);
+    let durations = settings_of(settings);
+    let levels = signals_of(signals);
+    let before = running_of(running);
+    let booked = frame_for(
+        known,
+        durations,
+        array,
+        register,
+        input,
+        levels,
+        output,
+        account,
+        before,
+        totals,
+        most,
+        numbers,
+    );
+    let after = booked.running;
+    put_running(after, running);
+    let answered = booked.answer;
+    reply(answered, device, answer)
+}
+
+// One call, one chip-select frame, for an account: its number is the refusal's, 0 if the call is accepted. The words of the record and of
+// the running operation become what then stands, and so do the tables.
+pub fn send_for(
+    device: &mut [u64],
+    settings: &[u64],
+    signals: &[u64],
+    array: &mut [u8],
+    register: &mut [u8],
+    input: &[u8],
+    output: &mut [u8],
+    answer: &mut [u64],
+    account: u64,
+    running: &mut [u64],
+    totals: &mut [u64; 256],
+    most: &mut [u64; 256],
+    numbers: &mut [u64; 256],
+) -> u64
+    ensures { λ r. ⌜
+        words.leftFor
+        (left r (now (device .exit)) (now (answer .exit)) (lent (now (array .exit)) (now (register .exit)) (now (output .exit))))
+        (now (running .exit)) (now (totals .exit)) (now (most .exit)) (now (numbers .exit)) ≡
+        words.faced (handed (now (device .entry)) (now (settings .entry)) (now (signals .entry)) (now (input .entry)) (now (answer .entry)))
+        (words.ticket account (now (running .entry)) (now (totals .entry)) (now (most .entry)) (now (numbers .entry)))
+        (lent (now (array .entry)) (now (register .entry)) (now (output .entry)))
+        ⌝ }
+{
+    if is_record(device)
+        & is_settings(settings)
+        & is_signals(signals)
+        & (answer.len() == 3)
+        & (running.len() == 2)
+    {
+        return told_for(
+            device,
+            settings,
+            signals,
+            array,
+            register,
+            input,
+            output,
+            answer,
+            account,
+            running,
+            totals,
+            most,
+            numbers,
+        );
+    }
+    UNREAD
+}
+
+// The report on an account, three words: its total, the most ticks billed for one of its operations, and the number of its operations.
+pub fn report<'a>(
+    totals: &'a [u64; 256],
+    most: &'a [u64; 256],
+    numbers: &'a [u64; 256],
+    account: u64,
+    line: &mut [u64],
+) -> u64
+    ensures { λ r. ⌜ r ≡ words.reportNumber account (now (line .entry)) ⌝ }
+    ensures { λ _. ⌜
+        now (line .exit) ≡
+        words.reportWords account (now (totals .entry)) (now (most .entry)) (now (numbers .entry)) (now (line .entry))
+        ⌝ }
+{
+    if line.len() != 3 {
+        return UNREAD;
+    }
+    let reported = ledger::report(totals, most, numbers, account);
+    let refusal = reported.refusal;
+    let number = wide(refusal.number());
+    let told = [reported.total, reported.most, reported.number];
+    write(number == 0, line, &told);
+    number
+}
