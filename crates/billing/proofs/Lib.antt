@@ -5,3 +5,4 @@ pub mod Bills
 pub mod Polls
 pub mod Memories
 pub mod Promises
+pub mod Worked

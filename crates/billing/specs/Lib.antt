@@ -2,3 +2,4 @@ pub mod Entries
 pub mod Operations
 pub mod Series
 pub mod Promises
+pub mod Worked
