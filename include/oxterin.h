@@ -11,13 +11,17 @@
  *         &record, &settings, oxterin_whole_bytes(1, 0), array, sizeof array, security, sizeof security,
  *         enable, sizeof enable, output, sizeof output, &answer);
  *
- * Nothing is kept between calls but what you hand in again: the record, the array and the security register. Calls on different parts
- * may run at the same time. Memories that are written (record, array, register, output, text, answer, characters, place) must not overlap
- * anything else that the same call is handed. A null array, register, input, output or text counts as one of length 0; record, settings,
- * answer, characters and place are never null.
+ * Nothing is kept between calls but what you hand in again: the record, the array, the security register and, if there is one, the ledger.
+ * Calls on different parts may run at the same time, if each has a ledger of its own or none. Memories that are written (record, array,
+ * register, output, text, answer, ledger, line, characters, place) must not overlap anything else that the same call is handed. A null
+ * array, register, input, output or text counts as one of length 0; record, settings, answer, ledger, line, characters and place are never
+ * null.
  *
  * Time passes only in ticks that a call brings: those elapsed before its frame, and those that each byte position of the frame takes. Who
  * fills oxterin_signals field by field sets ticks_per_byte too: 0 is a frame that takes no time.
+ *
+ * Where several accounts share a part, oxterin_send_frame_for and a ledger bill busy time to the account whose frame began it, whoever
+ * polls afterwards.
  *
  * C11 or C++17; needs nothing but this file and the library.
  */
@@ -33,7 +37,7 @@ extern "C" {
 #endif
 
 /* The version of this header; oxterin_version() is the library's. A million for the first number, a thousand for the second. */
-#define OXTERIN_VERSION 1002000
+#define OXTERIN_VERSION 1003000
 
 /* Lengths in bytes. */
 #define OXTERIN_ARRAY 131072u      /* the AT25XE011's own array */
@@ -43,6 +47,11 @@ extern "C" {
 
 /* A byte position takes no more ticks. */
 #define OXTERIN_MOST_TICKS_PER_BYTE 1000u
+
+/* A ledger. */
+#define OXTERIN_ACCOUNTS 256u                            /* its accounts, counted from 0 */
+#define OXTERIN_NOBODY 256u                              /* stands for no account, as every number above does */
+#define OXTERIN_BILL_LIMIT UINT64_C(9000000000000000000) /* no total and no number of operations is accepted above */
 
 /* Lengths in characters of an array's content as Intel HEX text, as it is written. A text that is read may have any length. */
 #define OXTERIN_HEX_TEXT 360492u       /* of OXTERIN_ARRAY */
@@ -82,8 +91,29 @@ typedef struct {
     uint64_t ticks_per_byte; /* ticks that each byte position takes, a partial last one too; at most 1,000 */
 } oxterin_signals;
 
-/* Why a call was refused. Record, memories, output and text are then as they were, and neither elapsed nor frame ticks count. A frame has
- * the refusals 1 to 8; writing HEX has 17 and 18, reading it 12 to 16 and 18. */
+/* The running operation: whose it is, and what it was billed so far. */
+typedef struct {
+    uint64_t account; /* the one whose frame began it; any number over 255 is nobody */
+    uint64_t billed;  /* ticks billed for it so far */
+} oxterin_running;
+
+/* A ledger: what each account was billed, and the running operation. */
+typedef struct {
+    uint64_t totals[OXTERIN_ACCOUNTS];  /* ticks billed */
+    uint64_t most[OXTERIN_ACCOUNTS];    /* the most ticks billed for one operation */
+    uint64_t numbers[OXTERIN_ACCOUNTS]; /* how many operations it began */
+    oxterin_running running;            /* the running operation */
+} oxterin_ledger;
+
+/* What a ledger says of an account. */
+typedef struct {
+    uint64_t total;  /* ticks billed */
+    uint64_t most;   /* the most ticks billed for one operation */
+    uint64_t number; /* how many operations it began */
+} oxterin_line;
+
+/* Why a call was refused. Record, ledger, memories, output and text are then as they were, and neither elapsed nor frame ticks count. A
+ * frame has the refusals 1 to 8, and through a ledger 9; an account's line has 9; writing HEX has 17 and 18, reading it 12 to 16 and 18. */
 typedef enum {
     OXTERIN_ACCEPTED = 0,
     OXTERIN_ARRAY_LENGTH = 1,      /* the array has neither 131,072 nor 65,536 bytes */
@@ -94,6 +124,7 @@ typedef enum {
     OXTERIN_RECORD = 6,            /* more than 60,000,000 busy ticks left, or any in a part that is asleep */
     OXTERIN_DURATION = 7,          /* a duration is 0 or over 60,000,000 */
     OXTERIN_TICKS_PER_BYTE = 8,    /* more than 1,000 ticks per byte position */
+    OXTERIN_ACCOUNT = 9,           /* the account is over 255, or a total or number of the ledger is above OXTERIN_BILL_LIMIT */
     OXTERIN_HEX_MALFORMED = 12,    /* a line is no record; or data in 01, other than two bytes in 04 */
     OXTERIN_HEX_CHECKSUM = 13,     /* the checksum is wrong */
     OXTERIN_HEX_KIND = 14,         /* another type than 00, 01 and 04 */
@@ -131,10 +162,11 @@ typedef struct {
 /* The library's own functions, on words. The functions further below are easier to use.
  *
  * A record is 7 words (BPL, BP0, WEL, RSTE, OTP used, mode, busy ticks), the settings are 8, the signals 4 (bits, WP, ticks elapsed, ticks
- * per byte position), an answer 3 (outcome, first, driven), a status 2 bytes, the place of a look 2 (start, length), the characters and the
- * place of HEX 1. Signals of 3 words, without the last, are accepted too, from callers built for version 1.1.0, and mean 0 ticks per byte
- * position. Another length, a flag that is neither 0 nor 1, or a mode or memory that does not exist is answered with 255, and then nothing
- * has changed. No pointer may be null. */
+ * per byte position), an answer 3 (outcome, first, driven), a status 2 bytes, the place of a look 2 (start, length), the running part of a
+ * ledger 2 (account, ticks billed), an account's line 3 (total, most, number), the characters and the place of HEX 1. Signals of 3 words,
+ * without the last, are accepted too, from callers built for version 1.1.0, and mean 0 ticks per byte position. Another length, a flag that
+ * is neither 0 nor 1, or a mode or memory that does not exist is answered with 255, and then nothing has changed. The totals, most and
+ * numbers of a ledger always have OXTERIN_ACCOUNTS words each. No pointer may be null. */
 uint64_t oxterin_version(void);
 uint64_t oxterin_fresh(uint64_t bpl, uint64_t bp0, uint64_t otp_used, uint64_t *record, size_t record_length);
 uint64_t oxterin_typical(uint64_t *settings, size_t settings_length);
@@ -145,6 +177,13 @@ uint64_t oxterin_frame(uint64_t *record, size_t record_length, const uint64_t *s
                        const uint64_t *signals, size_t signals_length, uint8_t *array, size_t array_length, uint8_t *security,
                        size_t security_length, const uint8_t *input, size_t input_length, uint8_t *output, size_t output_length,
                        uint64_t *answer, size_t answer_length);
+uint64_t oxterin_ledger_frame(uint64_t *record, size_t record_length, const uint64_t *settings, size_t settings_length,
+                              const uint64_t *signals, size_t signals_length, uint8_t *array, size_t array_length, uint8_t *security,
+                              size_t security_length, const uint8_t *input, size_t input_length, uint8_t *output, size_t output_length,
+                              uint64_t *answer, size_t answer_length, uint64_t account, uint64_t *running, size_t running_length,
+                              uint64_t *totals, uint64_t *most, uint64_t *numbers);
+uint64_t oxterin_report(const uint64_t *totals, const uint64_t *most, const uint64_t *numbers, uint64_t account, uint64_t *line,
+                        size_t line_length);
 uint64_t oxterin_hex_write(const uint8_t *array, size_t array_length, uint8_t *text, size_t text_length, uint64_t *characters,
                            size_t characters_length);
 uint64_t oxterin_hex_read(const uint8_t *text, size_t text_length, uint8_t *array, size_t array_length, uint64_t *place,
@@ -171,6 +210,25 @@ static inline oxterin_record oxterin_unpack_record(const uint64_t words[7]) {
     record.mode = words[5] == 0 ? OXTERIN_AWAKE : words[5] == 1 ? OXTERIN_DEEP : OXTERIN_ULTRA_DEEP;
     record.busy = words[6];
     return record;
+}
+
+/* The words of settings and of signals. */
+static inline void oxterin_pack_settings(const oxterin_settings *settings, uint64_t words[8]) {
+    words[0] = settings->byte_program;
+    words[1] = settings->longer_program;
+    words[2] = settings->page_erase;
+    words[3] = settings->erase_4k;
+    words[4] = settings->erase_32k;
+    words[5] = settings->chip_erase;
+    words[6] = settings->otp_program;
+    words[7] = settings->status_write;
+}
+
+static inline void oxterin_pack_signals(oxterin_signals signals, uint64_t words[4]) {
+    words[0] = signals.bits;
+    words[1] = signals.wp_high;
+    words[2] = signals.elapsed;
+    words[3] = signals.ticks_per_byte;
 }
 
 /* A fresh record: awake and idle, WEL and RSTE clear. */
@@ -238,6 +296,18 @@ static inline oxterin_part oxterin_look_at(const uint8_t *array, size_t array_le
     return part;
 }
 
+/* What a frame's number and words stand for. The record is taken over if the frame was accepted. */
+static inline oxterin_refusal oxterin_take_answer(uint64_t number, const uint64_t device[7], const uint64_t told[3],
+                                                  oxterin_record *record, oxterin_answer *answer) {
+    answer->outcome = (oxterin_outcome)told[0];
+    answer->first = (size_t)told[1];
+    answer->driven = (size_t)told[2];
+    if (number == 0) {
+        *record = oxterin_unpack_record(device);
+    }
+    return (oxterin_refusal)number;
+}
+
 /* One chip-select frame. The record becomes what the part then remembers, and of the output the first input_length bytes are written.
  * The answer says what became of the frame. After a refused call it says nothing, 0 and 0, and all else is as it was.
  *
@@ -249,23 +319,70 @@ static inline oxterin_refusal oxterin_send_frame(oxterin_record *record, const o
                                                  const uint8_t *input, size_t input_length, uint8_t *output, size_t output_length,
                                                  oxterin_answer *answer) {
     uint64_t device[7];
+    uint64_t durations[8];
+    uint64_t levels[4];
     uint64_t told[3] = {0, 0, 0};
     uint64_t number;
-    const uint64_t levels[4] = {signals.bits, signals.wp_high, signals.elapsed, signals.ticks_per_byte};
-    const uint64_t durations[8] = {settings->byte_program, settings->longer_program, settings->page_erase,  settings->erase_4k,
-                                   settings->erase_32k,    settings->chip_erase,     settings->otp_program, settings->status_write};
     oxterin_pack_record(record, device);
+    oxterin_pack_settings(settings, durations);
+    oxterin_pack_signals(signals, levels);
     number = oxterin_frame(device, 7, durations, 8, levels, 4, array ? array : oxterin_nowhere(),
                            oxterin_length_of(array, array_length), security ? security : oxterin_nowhere(),
                            oxterin_length_of(security, security_length), input ? input : oxterin_nowhere(),
                            oxterin_length_of(input, input_length), output ? output : oxterin_nowhere(),
                            oxterin_length_of(output, output_length), told, 3);
-    answer->outcome = (oxterin_outcome)told[0];
-    answer->first = (size_t)told[1];
-    answer->driven = (size_t)told[2];
-    if (number == 0) {
-        *record = oxterin_unpack_record(device);
+    return oxterin_take_answer(number, device, told, record, answer);
+}
+
+/* Makes a ledger empty: nothing billed, nothing begun, and what is running is nobody's. */
+static inline void oxterin_empty_ledger(oxterin_ledger *ledger) {
+    size_t account;
+    for (account = 0; account < OXTERIN_ACCOUNTS; account++) {
+        ledger->totals[account] = 0;
+        ledger->most[account] = 0;
+        ledger->numbers[account] = 0;
     }
+    ledger->running.account = OXTERIN_NOBODY;
+    ledger->running.billed = 0;
+}
+
+/* One chip-select frame as oxterin_send_frame sends it, for an account. The ticks that come off a running operation are billed to the
+ * account whose frame began it; an operation that this frame begins is the account's own, and none of this frame's ticks are billed for it.
+ * Busy ticks left in the first record are billed to nobody, if the first ledger is empty. A refused call changes no word of the ledger. */
+static inline oxterin_refusal oxterin_send_frame_for(uint64_t account, oxterin_ledger *ledger, oxterin_record *record,
+                                                     const oxterin_settings *settings, oxterin_signals signals, uint8_t *array,
+                                                     size_t array_length, uint8_t *security, size_t security_length,
+                                                     const uint8_t *input, size_t input_length, uint8_t *output, size_t output_length,
+                                                     oxterin_answer *answer) {
+    uint64_t device[7];
+    uint64_t durations[8];
+    uint64_t levels[4];
+    uint64_t told[3] = {0, 0, 0};
+    uint64_t running[2];
+    uint64_t number;
+    oxterin_pack_record(record, device);
+    oxterin_pack_settings(settings, durations);
+    oxterin_pack_signals(signals, levels);
+    running[0] = ledger->running.account;
+    running[1] = ledger->running.billed;
+    number = oxterin_ledger_frame(device, 7, durations, 8, levels, 4, array ? array : oxterin_nowhere(),
+                                  oxterin_length_of(array, array_length), security ? security : oxterin_nowhere(),
+                                  oxterin_length_of(security, security_length), input ? input : oxterin_nowhere(),
+                                  oxterin_length_of(input, input_length), output ? output : oxterin_nowhere(),
+                                  oxterin_length_of(output, output_length), told, 3, account, running, 2, ledger->totals,
+                                  ledger->most, ledger->numbers);
+    ledger->running.account = running[0];
+    ledger->running.billed = running[1];
+    return oxterin_take_answer(number, device, told, record, answer);
+}
+
+/* An account's line of a ledger; all 0 if the account is over 255, which is refused. */
+static inline oxterin_refusal oxterin_account_line(const oxterin_ledger *ledger, uint64_t account, oxterin_line *line) {
+    uint64_t words[3] = {0, 0, 0};
+    uint64_t number = oxterin_report(ledger->totals, ledger->most, ledger->numbers, account, words, 3);
+    line->total = words[0];
+    line->most = words[1];
+    line->number = words[2];
     return (oxterin_refusal)number;
 }
 
@@ -332,6 +449,8 @@ static inline const char *oxterin_refusal_text(oxterin_refusal refusal) {
         return "a duration is 0 or over 60,000,000 ticks";
     case OXTERIN_TICKS_PER_BYTE:
         return "more than 1,000 ticks per byte position";
+    case OXTERIN_ACCOUNT:
+        return "the account is over 255, or an account's total or number of operations is above 9,000,000,000,000,000,000";
     case OXTERIN_HEX_MALFORMED:
         return "a line is no record, by its colon, its digits or its length, or has data in 01 or other than two bytes in 04";
     case OXTERIN_HEX_CHECKSUM:

@@ -20,6 +20,8 @@ static uint8_t output[16];
 static oxterin_record record;
 static oxterin_settings settings;
 static oxterin_answer answer;
+static oxterin_ledger ledger;
+static oxterin_line line;
 static uint8_t text[OXTERIN_HEX_TEXT + 1];
 static size_t characters;
 static size_t place;
@@ -41,12 +43,21 @@ static oxterin_refusal send_slowly(const uint8_t *input, size_t length, uint64_t
     return send_with(input, length, signals);
 }
 
+/* A frame for an account, of whole bytes that take ticks. */
+static oxterin_refusal send_for(uint64_t account, const uint8_t *input, size_t length, uint64_t elapsed, uint64_t ticks_per_byte) {
+    oxterin_signals signals = oxterin_whole_bytes(length, elapsed);
+    signals.ticks_per_byte = ticks_per_byte;
+    return oxterin_send_frame_for(account, &ledger, &record, &settings, signals, array, sizeof array, security, sizeof security, input,
+                                  length, output, sizeof output, &answer);
+}
+
 static void start(void) {
     memset(array, 0xFF, sizeof array);
     memset(security, 0xFF, sizeof security);
     memset(output, 0xEE, sizeof output);
     record = oxterin_fresh_record(false, false, false);
     settings = oxterin_typical_settings();
+    oxterin_empty_ledger(&ledger);
 }
 
 static void records_and_settings(void) {
@@ -192,6 +203,110 @@ static void looks(void) {
     CHECK(part.bytes == security && part.length == 128);
 }
 
+/* Whether an account's line has these numbers. */
+static bool line_of(uint64_t account, uint64_t total, uint64_t most, uint64_t number) {
+    return oxterin_account_line(&ledger, account, &line) == OXTERIN_ACCEPTED && line.total == total && line.most == most &&
+           line.number == number;
+}
+
+/* Whether the running operation is this account's, with so many ticks billed. */
+static bool runs_for(uint64_t account, uint64_t billed) {
+    return ledger.running.account == account && ledger.running.billed == billed;
+}
+
+static void busy_time_is_billed_to_who_began_it(void) {
+    const uint8_t enable[] = {0x06};
+    const uint8_t allow_reset[] = {0x31, 0x10};
+    const uint8_t program[] = {0x02, 0x00, 0x00, 0x00, 0x5A};
+    const uint8_t erase[] = {0x20, 0x00, 0x10, 0x00};
+    const uint8_t poll[] = {0x05, 0x00, 0x00};
+    const uint8_t reset[] = {0xF0, 0xD0};
+    start();
+    CHECK(runs_for(OXTERIN_NOBODY, 0) && line_of(0, 0, 0, 0) && line_of(255, 0, 0, 0));
+    record.busy = 30; /* nobody's: 10 elapse, and three positions take 15 */
+    CHECK(send_for(4, poll, 3, 10, 5) == OXTERIN_ACCEPTED && record.busy == 5 && runs_for(OXTERIN_NOBODY, 0) && line_of(4, 0, 0, 0));
+    CHECK(send_for(4, enable, 1, 5, 0) == OXTERIN_ACCEPTED && record.wel && send_for(4, allow_reset, 2, 0, 0) == OXTERIN_ACCEPTED);
+    CHECK(answer.outcome == OXTERIN_CONTROL && record.rste && line_of(4, 0, 0, 0));
+
+    CHECK(send_for(0, enable, 1, 0, 0) == OXTERIN_ACCEPTED && send_for(255, program, 5, 9, 7) == OXTERIN_ACCEPTED);
+    CHECK(answer.outcome == OXTERIN_BEGUN && record.busy == 12 && array[0] == 0x5A);
+    CHECK(runs_for(255, 0) && line_of(255, 0, 0, 1) && line_of(0, 0, 0, 0));
+    CHECK(send_for(0, poll, 3, 2, 1) == OXTERIN_ACCEPTED && answer.outcome == OXTERIN_READ && answer.first == 1 && answer.driven == 2);
+    CHECK(record.busy == 7 && runs_for(255, 5) && line_of(255, 5, 5, 1) && line_of(0, 0, 0, 0));
+    CHECK(send_for(0, poll, 3, UINT64_MAX, 1) == OXTERIN_ACCEPTED && record.busy == 0);
+    CHECK(runs_for(OXTERIN_NOBODY, 0) && line_of(255, 12, 12, 1) && line_of(0, 0, 0, 0));
+
+    CHECK(send_for(255, enable, 1, 0, 0) == OXTERIN_ACCEPTED && send_for(255, erase, 4, 0, 0) == OXTERIN_ACCEPTED);
+    CHECK(record.busy == 50000 && runs_for(255, 0) && line_of(255, 12, 12, 2));
+    CHECK(send_for(7, reset, 2, 100, 3) == OXTERIN_ACCEPTED && answer.outcome == OXTERIN_CONTROL && record.busy == 0);
+    CHECK(runs_for(OXTERIN_NOBODY, 0) && line_of(255, 118, 106, 2) && line_of(7, 0, 0, 0));
+}
+
+/* Whether a poll for an account is refused so, and nothing changes. The record has 100 busy ticks. */
+static bool poll_refused(uint64_t account, uint64_t ticks_per_byte, oxterin_refusal refusal) {
+    const uint8_t poll[] = {0x05, 0x00};
+    const oxterin_ledger before = ledger;
+    answer.driven = 77;
+    return send_for(account, poll, 2, 9, ticks_per_byte) == refusal && memcmp(&ledger, &before, sizeof ledger) == 0 &&
+           record.busy == 100 && output[0] == 0xEE && answer.outcome == OXTERIN_NOTHING && answer.first == 0 && answer.driven == 0;
+}
+
+static void ledger_refusals(void) {
+    const uint8_t poll[] = {0x05, 0x00};
+    size_t account;
+    start();
+    record.busy = 100;
+    ledger.running.account = 3;
+    ledger.running.billed = UINT64_MAX - 5;
+    CHECK(poll_refused(OXTERIN_ACCOUNTS, 1, OXTERIN_ACCOUNT) && poll_refused(UINT64_MAX, 1, OXTERIN_ACCOUNT));
+    CHECK(poll_refused(3, 1001, OXTERIN_TICKS_PER_BYTE) && poll_refused(256, 1001, OXTERIN_TICKS_PER_BYTE));
+    for (account = 0; account < OXTERIN_ACCOUNTS; account++) {
+        ledger.totals[account] = OXTERIN_BILL_LIMIT + 1;
+        CHECK(poll_refused(3, 1, OXTERIN_ACCOUNT));
+        ledger.totals[account] = OXTERIN_BILL_LIMIT;
+        ledger.numbers[account] = UINT64_MAX;
+        CHECK(poll_refused(3, 1, OXTERIN_ACCOUNT));
+        ledger.numbers[account] = OXTERIN_BILL_LIMIT;
+    }
+    ledger.most[9] = UINT64_MAX;
+    CHECK(send_for(9, poll, 2, 9, 1) == OXTERIN_ACCEPTED && record.busy == 89 && runs_for(3, UINT64_MAX));
+    CHECK(line_of(3, OXTERIN_BILL_LIMIT + 11, UINT64_MAX, OXTERIN_BILL_LIMIT));
+    CHECK(line_of(9, OXTERIN_BILL_LIMIT, UINT64_MAX, OXTERIN_BILL_LIMIT));
+    CHECK(send_for(9, poll, 2, 9, 1) == OXTERIN_ACCOUNT && record.busy == 89);
+    CHECK(oxterin_account_line(&ledger, 256, &line) == OXTERIN_ACCOUNT && line.total == 0 && line.most == 0 && line.number == 0);
+    CHECK(strcmp(oxterin_refusal_text(OXTERIN_ACCOUNT),
+                 "the account is over 255, or an account's total or number of operations is above 9,000,000,000,000,000,000") == 0);
+}
+
+/* A poll through a ledger by the function on words, handed so many words of the running part. */
+static uint64_t ledger_poll_by_words(uint64_t device[7], uint64_t *running, size_t words) {
+    const uint8_t poll[] = {0x05, 0x00, 0x00};
+    const uint64_t durations[8] = {1, 1, 1, 1, 1, 1, 1, 1};
+    const uint64_t signals[4] = {24, 1, 4, 0};
+    uint64_t told[3];
+    return oxterin_ledger_frame(device, 7, durations, 8, signals, 4, array, sizeof array, security, sizeof security, poll, sizeof poll,
+                                output, sizeof output, told, 3, 0, running, words, ledger.totals, ledger.most, ledger.numbers);
+}
+
+/* A running part of another count of words than two is not read, and a line of another than three not written. */
+static void ledger_words(void) {
+    uint64_t device[7] = {0, 0, 0, 0, 0, 0, 20};
+    uint64_t running[3] = {255, 1, 78};
+    uint64_t words[4] = {74, 75, 76, 77};
+    start();
+    CHECK(ledger_poll_by_words(device, running, 0) == OXTERIN_UNREAD && ledger_poll_by_words(device, running, 1) == OXTERIN_UNREAD);
+    CHECK(ledger_poll_by_words(device, running, 3) == OXTERIN_UNREAD && device[6] == 20 && output[0] == 0xEE);
+    CHECK(running[0] == 255 && running[1] == 1 && running[2] == 78 && line_of(255, 0, 0, 0));
+    CHECK(ledger_poll_by_words(device, running, 2) == 0 && device[6] == 16 && output[0] == 0xFF);
+    CHECK(running[0] == 255 && running[1] == 5 && running[2] == 78 && line_of(255, 4, 5, 0) && line_of(0, 0, 0, 0));
+    CHECK(oxterin_report(ledger.totals, ledger.most, ledger.numbers, 255, words, 2) == OXTERIN_UNREAD);
+    CHECK(oxterin_report(ledger.totals, ledger.most, ledger.numbers, 256, words, 4) == OXTERIN_UNREAD);
+    CHECK(oxterin_report(ledger.totals, ledger.most, ledger.numbers, 256, words, 3) == OXTERIN_ACCOUNT);
+    CHECK(words[0] == 74 && words[1] == 75 && words[2] == 76);
+    CHECK(oxterin_report(ledger.totals, ledger.most, ledger.numbers, 255, words, 3) == 0);
+    CHECK(words[0] == 4 && words[1] == 5 && words[2] == 0 && words[3] == 77);
+}
+
 /* Whether all of so many bytes are this one. */
 static bool all(const uint8_t *bytes, size_t length, uint8_t byte) {
     size_t k = 0;
@@ -314,6 +429,9 @@ int main(void) {
     signals_by_words();
     refusals();
     looks();
+    busy_time_is_billed_to_who_began_it();
+    ledger_refusals();
+    ledger_words();
     hex_written();
     hex_read();
     hex_refusals();

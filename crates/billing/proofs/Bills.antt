@@ -12,8 +12,8 @@ use lib.Dec.{ltb, eqb}
 use lib.ListN.{length, getD, replicate, length-replicate, getD-replicate}
 use Rattle.sheet.specs.declared.device.Device.{Device}
 use Rattle.part.specs.Busy.{durationOf}
-use Rattle.ledger.specs.declared.Running.{Running}
-use Rattle.ledger.specs.Ledger.{Ledger, isAccount, runs, nobody, empty, at, paid}
+use Rattle.accounts.specs.declared.Running.{Running}
+use Rattle.accounts.specs.Ledger.{Ledger, isAccount, runs, nobody, empty, at, paid}
 use Rattle.billing.specs.Entries.{Entry, Done, replyTo, ledgerBy, doneOf, calls, lastLedger}
 use Rattle.billing.specs.Operations.{accepted, begins, stops, ticks, passed, operations, bills, sum, largest, busyTicks}
 use Rattle.billing.proofs.Tables.{length-at, entry-at, sum-at}

@@ -14,7 +14,7 @@ use Rattle.part.specs.Frame.{Call, Reply, numberFor, refused}
 use Rattle.part.proofs.Answers.{refusal-is}
 use Rattle.series.specs.Turns.{callOf, lengthsOf}
 use Rattle.series.proofs.Turns.{refused-reply}
-use Rattle.ledger.specs.Ledger.{Ledger, shut, booked}
+use Rattle.accounts.specs.Ledger.{Ledger, shut, booked}
 use Rattle.ledger.specs.Frame.{shutOut, replied}
 use Rattle.billing.specs.Entries.{Entry, Done, replyTo, ledgerBy, doneOf, calls, lastRecord, lastLedger}
 

@@ -16,7 +16,7 @@ use Rattle.series.specs.Series as series
 use Rattle.series.specs.Series.{Step, State, lentTo}
 use Rattle.series.proofs.Lending.{returned-same}
 use Rattle.series.proofs.Steps.{same-lengths}
-use Rattle.ledger.specs.Ledger.{Ledger, booked}
+use Rattle.accounts.specs.Ledger.{Ledger, booked}
 use Rattle.ledger.specs.Frame.{Result, shutOut, replied, frame}
 use Rattle.billing.specs.Entries.{Entry, Done, entry, replyTo, ledgerBy, calls, lastRecord, lastLedger, turnsThrough}
 use Rattle.billing.specs.Series.{Booking, Desk, Made, entriesOf, resultOf, left, results, end, stepsThrough, madeOf, Ran}

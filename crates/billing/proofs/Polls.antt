@@ -10,7 +10,7 @@ use lib.Text.{eqt, eqt→eq}
 use Rattle.sheet.specs.declared.device.Device.{Device}
 use Rattle.part.specs.Frame.{Reply}
 use Rattle.series.specs.Turns.{Turn}
-use Rattle.ledger.specs.Ledger.{Ledger, booked}
+use Rattle.accounts.specs.Ledger.{Ledger, booked}
 use Rattle.ledger.specs.Frame.{replied}
 use Rattle.billing.specs.Entries.{Entry, entry, replyTo, ledgerBy, lastRecord, lastLedger}
 use Rattle.billing.proofs.Entries.{refused-through, refused-ledger, record-joined, ledger-joined}

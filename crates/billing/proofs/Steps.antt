@@ -16,8 +16,8 @@ use Rattle.part.specs.Frame as part
 use Rattle.part.proofs.Busy.{begun-idle, busy-is}
 use Rattle.series.specs.Turns.{callOf, lengthsOf}
 use Rattle.series.proofs.Turns.{accepted-turn, sound-turn}
-use Rattle.ledger.specs.declared.Running.{Running}
-use Rattle.ledger.specs.Ledger.{Ledger, ledger, runs, nobody, at, paid, charged, stopped, booked}
+use Rattle.accounts.specs.declared.Running.{Running}
+use Rattle.accounts.specs.Ledger.{Ledger, ledger, runs, nobody, at, paid, charged, stopped, booked}
 use Rattle.ledger.proofs.Frames.{open-to}
 use Rattle.billing.specs.Entries.{Entry, Done, replyTo, ledgerBy, doneOf}
 use Rattle.billing.specs.Operations.{accepted, begins, stops, ticks}

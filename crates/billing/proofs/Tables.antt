@@ -11,7 +11,7 @@ use borrow.Author.Tests.{lt-ltb, ltb-true, eq-eqb, ne-eqb}
 use lib.Dec.{ltb, eqb}
 use lib.ListN.{length, getD, set, length-set}
 use lib.Seq.{getD-set-same, getD-set-other}
-use Rattle.ledger.specs.Ledger.{isAccount, at}
+use Rattle.accounts.specs.Ledger.{isAccount, at}
 use Rattle.billing.specs.Operations.{sum}
 
 -- its length stays

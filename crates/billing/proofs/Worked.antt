@@ -6,7 +6,7 @@ use Rattle.sheet.specs.Judging.{judged, byOpcode}
 use Rattle.lent.specs.Refusal.{refusalOf}
 use Rattle.part.specs.Frame as part
 use Rattle.ledger.specs.Frame.{replied}
-use Rattle.ledger.specs.Ledger.{aboveBefore, booked}
+use Rattle.accounts.specs.Ledger.{aboveBefore, booked}
 use Rattle.billing.specs.Entries.{lastLedger}
 use Rattle.billing.specs.Worked.{Worked}
 

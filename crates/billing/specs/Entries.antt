@@ -8,7 +8,7 @@ use Rattle.sheet.specs.declared.device.Device.{Device}
 use Rattle.part.specs.Frame.{Call, Reply}
 use Rattle.series.specs.Turns.{Turn, callOf, lengthsOf}
 use Rattle.ledger.specs.Frame as through
-use Rattle.ledger.specs.Ledger.{Ledger, booked}
+use Rattle.accounts.specs.Ledger.{Ledger, booked}
 
 -- a turn, and the account that it is for
 pub record Entry : Type 0 where

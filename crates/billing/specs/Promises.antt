@@ -12,7 +12,7 @@ use Rattle.series.specs.Turns as turns
 use Rattle.series.specs.Turns.{Turn}
 use Rattle.series.specs.Series as series
 use Rattle.series.specs.Bytes.{since, bytesAt, andAll, startAt}
-use Rattle.ledger.specs.Ledger.{Ledger, empty}
+use Rattle.accounts.specs.Ledger.{Ledger, empty}
 use Rattle.ledger.specs.Frame.{Result}
 use Rattle.billing.specs.Entries.{Entry, Done, entry, replyTo, calls, lastRecord, lastLedger, turnsThrough}
 use Rattle.billing.specs.Operations.{passed, operations, bills, sum, largest, busyTicks}

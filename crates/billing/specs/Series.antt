@@ -8,7 +8,7 @@ use Rattle.series.specs.Turns.{callOf, lengthsOf}
 use Rattle.series.specs.Series as series
 use Rattle.series.specs.Series.{Step, State, lentTo}
 use Rattle.ledger.specs.declared.Booked.{Booked}
-use Rattle.ledger.specs.Ledger.{Ledger, ledger}
+use Rattle.accounts.specs.Ledger.{Ledger, ledger}
 use Rattle.ledger.specs.Frame.{Result, shutOut, frame, Meets}
 use Rattle.billing.specs.Entries.{Entry, entry}
 

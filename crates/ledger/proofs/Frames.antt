@@ -12,7 +12,7 @@ use Rattle.part.specs.declared.frame.Answer.{Answer}
 use Rattle.part.specs.Frame as part
 use Rattle.part.specs.Frame.{Call, Lent, Reply, Result, lengthsOf, numberFor, refused, replyOf}
 use Rattle.part.proofs.Answers.{refusal-is}
-use Rattle.ledger.specs.Ledger.{Ledger, anyAbove, shut, booked}
+use Rattle.accounts.specs.Ledger.{Ledger, anyAbove, shut, booked}
 use Rattle.ledger.specs.Frame.{afterOthers, replied, frame, Meets}
 
 -- what is known of a ledger that is not shut

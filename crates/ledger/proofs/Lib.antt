@@ -1,3 +1,1 @@
-pub mod Off
-pub mod Above
 pub mod Frames

@@ -7,7 +7,7 @@ use Rattle.lent.specs.declared.refusal.Lengths.{Lengths}
 use Rattle.part.specs.Frame as part
 use Rattle.part.specs.Frame.{Call, Lent, Reply, lengthsOf, numberFor, refused, replyOf}
 use Rattle.ledger.specs.declared.Booked.{Booked}
-use Rattle.ledger.specs.Ledger.{Ledger, shut, booked}
+use Rattle.accounts.specs.Ledger.{Ledger, shut, booked}
 
 -- refusal 9 is given, after all others
 abbrev pub shutOut : Call → Lengths → ℕ → Ledger → Bool

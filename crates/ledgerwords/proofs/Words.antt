@@ -10,8 +10,8 @@ use Rattle.sheet.specs.declared.device.Device.{Device}
 use Rattle.input.specs.declared.Signals.{Signals}
 use Rattle.part.specs.Frame.{Lent, call, replyOf}
 use Rattle.ledger.specs.declared.Booked.{Booked}
-use Rattle.ledger.specs.declared.Running.{Running}
-use Rattle.ledger.specs.Ledger.{ledger}
+use Rattle.accounts.specs.declared.Running.{Running}
+use Rattle.accounts.specs.Ledger.{ledger}
 use Rattle.ledger.specs.Frame.{frame, Meets}
 use Rattle.packing.specs.Packing.{packed, deviceOf, settingsOf, signalsOf, answerOf}
 use Rattle.framewords.specs.Words.{Handed, isCall, callOf, left}

@@ -7,8 +7,8 @@ use lib.Dec.{eqb}
 use lib.ListN.{length, getD}
 use Rattle.lent.specs.Refusal.{numberOf}
 use Rattle.part.specs.Frame.{Lent}
-use Rattle.ledger.specs.declared.Running.{Running}
-use Rattle.ledger.specs.Ledger.{Ledger, ledger, runs, isAccount, reported}
+use Rattle.accounts.specs.declared.Running.{Running}
+use Rattle.accounts.specs.Ledger.{Ledger, ledger, runs, isAccount, reported}
 use Rattle.ledger.specs.Frame.{Result, frame}
 use Rattle.packing.specs.Packing.{writtenIf}
 use Rattle.framewords.specs.Words as plain

@@ -1,7 +1,7 @@
 // Frames through the ledger, and its report, for callers that have only numbers and memories: words that stand for nothing are answered
 // with 255, and then nothing changes.
+use accounts::Running;
 use framewords::reply;
-use ledger::Running;
 use ledger::frame_for;
 use packing::UNREAD;
 use packing::device_of;
@@ -166,7 +166,7 @@ pub fn report<'a>(
     if line.len() != 3 {
         return UNREAD;
     }
-    let reported = ledger::report(totals, most, numbers, account);
+    let reported = accounts::report(totals, most, numbers, account);
     let refusal = reported.refusal;
     let number = wide(refusal.number());
     let told = [reported.total, reported.most, reported.number];

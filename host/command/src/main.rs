@@ -1,17 +1,25 @@
 //! The command `oxterin`: the proved part for people at a bench.
 #![forbid(unsafe_code)]
 
+mod bench;
+mod bill;
 mod complaint;
+mod frames;
 mod hex;
 mod hex_fault;
 mod image;
 mod lines;
 mod options;
+mod page;
+mod progress;
 mod run;
 mod serprog;
 mod serve;
 mod session;
 mod source;
+mod table;
+mod tally;
+mod whole;
 
 use complaint::{complain, complaint, Complaint};
 use std::io::{self, Write};
@@ -24,6 +32,7 @@ Usage: oxterin COMMAND [OPTIONS]
 
   session     the built-in session of four frames
   run         frames from a file or standard input, answered line by line
+  bill        frames from a file or standard input, and which account pays for the busy time
   serve       the part behind the serprog protocol, for flashrom and other clients
   hex         array images to Intel HEX text, and back
 
@@ -71,14 +80,18 @@ fn obey(words: &[String]) -> Result<(), Complaint> {
         "--version" | "-V" => say(&version()),
         "session" if asks_help => say(session::HELP),
         "run" if asks_help => say(&run::help()),
+        "bill" if asks_help => say(&bill::help()),
         "serve" if asks_help => say(&serve::help()),
         "hex" if asks_help => say(hex::HELP),
         "session" if rest.is_empty() => say(&session::lines()?),
         "session" => Err(complaint(format!("session takes nothing behind it, and was given {}", rest[0]))),
         "run" => run::run(rest),
+        "bill" => bill::bill(rest),
         "serve" => serve::serve(rest),
         "hex" => hex::hex(rest),
-        other => Err(complaint(format!("unknown command {other}; there are session, run, serve and hex"))),
+        other => Err(complaint(format!(
+            "unknown command {other}; there are session, run, serve and hex, and bill"
+        ))),
     }
 }
 

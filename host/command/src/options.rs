@@ -163,6 +163,21 @@ pub fn byte_ticks(text: &str) -> Option<u64> {
     number(text).filter(|ticks| *ticks <= Signals::MOST_TICKS_PER_BYTE)
 }
 
+/// An account, which is at most 255.
+pub fn account_of(text: &str) -> Option<u8> {
+    number(text).and_then(|account| u8::try_from(account).ok())
+}
+
+/// `--account N`: whose frames they are, if it is said.
+pub fn account(given: &Given) -> Result<Option<u8>, Complaint> {
+    given.value("--account").map_or(Ok(None), |text| match account_of(text) {
+        Some(account) => Ok(Some(account)),
+        None => Err(complaint(format!(
+            "--account {text}: an account is a number from 0 to 255 (refusal 9)"
+        ))),
+    })
+}
+
 /// `--ticks-per-byte N`: how many ticks each byte position of a frame takes, none unless said.
 pub fn ticks_per_byte(given: &Given) -> Result<u64, Complaint> {
     given.value("--ticks-per-byte").map_or(Ok(0), |text| {

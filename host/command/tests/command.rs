@@ -222,7 +222,7 @@ fn help_and_version() {
     }
     let version = oxterin(&["--version"], "");
     assert!(
-        said(&version).starts_with("oxterin 1.2.0\nproved library 1.2.0, built for "),
+        said(&version).starts_with("oxterin 1.3.0\nproved library 1.3.0, built for "),
         "{}",
         said(&version)
     );

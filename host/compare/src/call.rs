@@ -1,6 +1,6 @@
 //! One call: how much memory is lent, and all that is handed over with it.
 use model::Settings;
-use oxterin::Record;
+use oxterin::{Ledger, Record};
 
 /// Bytes that lie past every lent part; no side may touch them.
 pub const GUARD: usize = 16;
@@ -40,6 +40,10 @@ pub struct Call {
     pub ticks_per_byte: u64,
     /// The record handed over, if it is not the one that the call before gave back.
     pub record: Option<Record>,
+    /// The account that it is for, if it goes through the ledger.
+    pub account: Option<u64>,
+    /// The ledger handed over, if it is not the one that the calls before left.
+    pub ledger: Option<Box<Ledger>>,
 }
 
 impl Call {
@@ -57,6 +61,8 @@ impl Call {
             elapsed: 0,
             ticks_per_byte: 0,
             record: None,
+            account: None,
+            ledger: None,
         }
     }
 
@@ -76,6 +82,18 @@ impl Call {
     #[must_use]
     pub fn busy_at_first_bit(&self, record: &Record) -> u64 {
         record.busy.saturating_sub(self.elapsed)
+    }
+
+    /// The ticks that pass in the call, if it is accepted.
+    #[must_use]
+    pub fn ticks(&self) -> u128 {
+        u128::from(self.elapsed) + u128::from(self.positions()) * u128::from(self.ticks_per_byte)
+    }
+
+    /// What comes off the busy ticks of a part with this record, if the call is accepted.
+    #[must_use]
+    pub fn comes_off(&self, record: &Record) -> u64 {
+        u64::try_from(self.ticks()).map_or(record.busy, |ticks| ticks.min(record.busy))
     }
 }
 

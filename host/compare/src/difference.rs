@@ -44,6 +44,21 @@ impl Difference {
             self.found.push(format!("{name} has another {what}: {}", places(bytes, expected)));
         }
     }
+
+    /// Compares as many words of the same kind.
+    pub(crate) fn words<const COUNT: usize>(
+        &mut self,
+        name: &str,
+        what: fmt::Arguments<'_>,
+        words: &[u64; COUNT],
+        expected: &[u64; COUNT],
+    ) {
+        if let Some(place) = (0..COUNT).find(|&place| words[place] != expected[place]) {
+            let (word, expected) = (words[place], expected[place]);
+            self.found
+                .push(format!("{name} has another {what}: {word} at {place}, against {expected}"));
+        }
+    }
 }
 
 impl fmt::Display for Difference {

@@ -2,14 +2,15 @@
 //!
 //! A [`Call`] runs on three sides, each with memories of its own: the proved face by words, the safe wrapper over it, and the model. A
 //! [`Trial`] holds the three and says where they differ. [`Generator`] makes long random series of calls, [`shrink()`] cuts a series that
-//! shows a difference down to what is needed, and [`text`] writes it in lines that can be replayed. [`hex`] does the same for images as
-//! Intel HEX text, and [`measure`] takes times.
+//! shows a difference down to what is needed, and [`text`] writes it in lines that can be replayed. [`ledger`] makes series of calls that
+//! are billed to accounts. [`hex`] does all this for images as Intel HEX text, and [`measure`] takes times.
 
 mod asked;
 mod call;
 mod difference;
 mod generator;
 pub mod hex;
+pub mod ledger;
 pub mod measure;
 mod opcodes;
 mod random;

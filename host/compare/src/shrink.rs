@@ -1,6 +1,6 @@
 //! Cutting a failing series down to what is needed for the failure.
 use crate::call::{usual_durations, Call};
-use oxterin::{Mode, Record};
+use oxterin::{Ledger, Mode, Record, Running};
 
 /// The most rounds of a shrink: numbers that are tied to each other can go down by a little in each, and on and on.
 const ROUNDS: usize = 20;
@@ -58,6 +58,8 @@ fn keep(calls: &mut [Call], place: usize, fails: &impl Fn(&[Call]) -> bool, chan
 fn plain_fields(calls: &mut [Call], place: usize, fails: &impl Fn(&[Call]) -> bool) {
     let usual = Call::of(&calls[place].input);
     keep(calls, place, fails, |call| call.record = None);
+    keep(calls, place, fails, |call| call.account = None);
+    keep(calls, place, fails, |call| call.ledger = None);
     keep(calls, place, fails, |call| call.array = usual.array);
     keep(calls, place, fails, |call| call.register = usual.register);
     keep(calls, place, fails, |call| call.output = usual.output);
@@ -118,7 +120,33 @@ fn smaller_numbers(calls: &mut [Call], place: usize, fails: &impl Fn(&[Call]) ->
             }
         });
     }
+    reduce(calls, place, fails, |call| call.account.as_mut());
+    smaller_ledger(calls, place, fails);
 }
+
+/// Empties the ledger that a call hands over, part by part, or else makes its numbers smaller.
+fn smaller_ledger(calls: &mut [Call], place: usize, fails: &impl Fn(&[Call]) -> bool) {
+    keep(calls, place, fails, |call| {
+        if let Some(ledger) = &mut call.ledger {
+            ledger.running = Running::NOBODY;
+        }
+    });
+    reduce(calls, place, fails, |call| Some(&mut call.ledger.as_mut()?.running.billed));
+    for table in TABLES {
+        keep(calls, place, fails, |call| {
+            if let Some(ledger) = &mut call.ledger {
+                table(ledger).fill(0);
+            }
+        });
+        for account in 0..Ledger::ACCOUNTS {
+            reduce(calls, place, fails, |call| Some(&mut table(call.ledger.as_mut()?)[account]));
+        }
+    }
+}
+
+/// The tables of a ledger.
+const TABLES: [fn(&mut Ledger) -> &mut [u64; Ledger::ACCOUNTS]; 3] =
+    [|ledger| &mut ledger.totals, |ledger| &mut ledger.most, |ledger| &mut ledger.numbers];
 
 /// What makes a record plainer.
 const CLEAR: [fn(&mut Record); 6] = [
@@ -147,6 +175,7 @@ fn reduce(calls: &mut [Call], place: usize, fails: &impl Fn(&[Call]) -> bool, nu
 mod tests {
     use super::*;
     use crate::generator::Generator;
+    use crate::ledger;
     use crate::random::Random;
     use std::cell::Cell;
 
@@ -184,6 +213,40 @@ mod tests {
             ..Call::of(&[0x20])
         };
         assert_eq!(shrunk, [program, erase]);
+    }
+
+    #[test]
+    fn of_a_ledger_only_what_a_failure_needs_remains() {
+        let mut generator = ledger::Generator::new(Random::seeded(4), 65_536);
+        let record = Record::fresh(false, false, false);
+        let mut calls: Vec<Call> = (0..50).map(|_| generator.call(&record, &Ledger::empty())).collect();
+        let mut handed = Ledger {
+            totals: [77; Ledger::ACCOUNTS],
+            most: [78; Ledger::ACCOUNTS],
+            numbers: [79; Ledger::ACCOUNTS],
+            running: Running {
+                account: 5,
+                billed: 1 << 40,
+            },
+        };
+        handed.most[9] = u64::MAX;
+        calls[30].account = Some(255);
+        calls[30].ledger = Some(Box::new(handed));
+        let shrunk = shrink(calls, |calls| {
+            let needed = |ledger: &Ledger| ledger.most[9] >= 1_000 && ledger.running.billed >= 20;
+            calls
+                .iter()
+                .any(|call| call.account >= Some(7) && call.ledger.as_deref().is_some_and(needed))
+        });
+        let mut left = Ledger::empty();
+        left.most[9] = 1_000;
+        left.running = Running { account: 5, billed: 20 };
+        let call = Call {
+            account: Some(7),
+            ledger: Some(Box::new(left)),
+            ..Call::of(&[])
+        };
+        assert_eq!(shrunk, [call]);
     }
 
     /// Busy that has to end inside a frame ties the ticks elapsed and the busy ticks: each keeps the other from going down far.

@@ -1,5 +1,6 @@
 //! The three sides: the proved face by words, the wrapper over it, the model. Each has memories and an output buffer of its own.
 use crate::call::{Call, ARRAY_ROOM, GUARD, OUTPUT_ROOM, REGISTER_ROOM};
+use crate::ledger::Kept;
 use crate::reply::{word, words_of, Reply};
 use oxterin::{raw, Record, Settings, Signals};
 use std::panic::{catch_unwind, AssertUnwindSafe};
@@ -59,6 +60,8 @@ pub(crate) struct Lent<'a> {
     pub(crate) register: &'a mut [u8],
     /// The output buffer.
     pub(crate) output: &'a mut [u8],
+    /// The ledger, for a call that goes through it.
+    pub(crate) ledger: &'a mut Kept,
 }
 
 /// How a side carries a call out.
@@ -74,6 +77,8 @@ pub(crate) struct Side {
     pub(crate) memories: Memories,
     /// Its output buffer after the last call, with a guard.
     pub(crate) output: Vec<u8>,
+    /// Its own ledger.
+    pub(crate) ledger: Kept,
 }
 
 impl Side {
@@ -84,6 +89,7 @@ impl Side {
             run,
             memories: Memories::patterned(),
             output: Vec::with_capacity(CANARY.len()),
+            ledger: Kept::empty(),
         }
     }
 
@@ -95,6 +101,7 @@ impl Side {
             array: &mut self.memories.array[..call.array],
             register: &mut self.memories.register[..call.register],
             output: &mut self.output[..call.output],
+            ledger: &mut self.ledger,
         };
         let run = self.run;
         catch_unwind(AssertUnwindSafe(|| run(call, record, lent))).ok()
@@ -105,16 +112,34 @@ impl Side {
 pub(crate) fn by_words(call: &Call, record: &Record, lent: Lent<'_>) -> Reply {
     let mut words = words_of(record);
     let mut answer = [u64::MAX; raw::ANSWER];
-    let refusal = raw::frame(
-        &mut words,
-        &call.durations,
-        &[call.bits, call.wp_high.into(), call.elapsed, call.ticks_per_byte],
-        lent.array,
-        lent.register,
-        &call.input,
-        lent.output,
-        &mut answer,
-    );
+    let signals = [call.bits, call.wp_high.into(), call.elapsed, call.ticks_per_byte];
+    let refusal = match call.account {
+        None => raw::frame(
+            &mut words,
+            &call.durations,
+            &signals,
+            lent.array,
+            lent.register,
+            &call.input,
+            lent.output,
+            &mut answer,
+        ),
+        Some(account) => raw::ledger_frame(
+            &mut words,
+            &call.durations,
+            &signals,
+            lent.array,
+            lent.register,
+            &call.input,
+            lent.output,
+            &mut answer,
+            account,
+            &mut lent.ledger.running.words,
+            &mut lent.ledger.totals.words,
+            &mut lent.ledger.most.words,
+            &mut lent.ledger.numbers.words,
+        ),
+    };
     let [outcome, first, driven] = answer;
     Reply {
         refusal,
@@ -135,7 +160,23 @@ pub(crate) fn by_wrapper(call: &Call, record: &Record, lent: Lent<'_>) -> Reply 
         ticks_per_byte: call.ticks_per_byte,
     };
     let settings = settings_of(&call.durations);
-    match oxterin::frame(&mut after, &settings, lent.array, lent.register, &call.input, signals, lent.output) {
+    let result = match call.account {
+        None => oxterin::frame(&mut after, &settings, lent.array, lent.register, &call.input, signals, lent.output),
+        Some(account) => lent.ledger.in_wrapper(|ledger| {
+            oxterin::frame_for(
+                account,
+                ledger,
+                &mut after,
+                &settings,
+                lent.array,
+                lent.register,
+                &call.input,
+                signals,
+                lent.output,
+            )
+        }),
+    };
+    match result {
         Err(refusal) => Reply::refused(refusal.number().into(), &after),
         Ok(answer) => Reply {
             refusal: 0,
@@ -170,15 +211,22 @@ pub(crate) fn by_model(call: &Call, record: &Record, lent: Lent<'_>) -> Reply {
         elapsed: call.elapsed,
         ticks_per_byte: call.ticks_per_byte,
     };
-    let answer = model::frame(
-        model_record(record),
-        &settings,
-        lent.array,
-        lent.register,
-        &call.input,
-        pins,
-        lent.output,
-    );
+    let record = model_record(record);
+    let answer = match call.account {
+        None => model::frame(record, &settings, lent.array, lent.register, &call.input, pins, lent.output),
+        Some(account) => lent.ledger.in_books(&record, |books| {
+            books.frame(
+                record,
+                &settings,
+                lent.array,
+                lent.register,
+                &call.input,
+                pins,
+                lent.output,
+                account,
+            )
+        }),
+    };
     Reply {
         refusal: answer.refusal.into(),
         outcome: model_word(answer.outcome),

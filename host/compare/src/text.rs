@@ -8,12 +8,16 @@
 //! 02 00 00 FE 11 22*3 bits=55 wp=0 elapsed=5
 //! 05 00*4 ticks-per-byte=8
 //! - array=65536 register=127 output=0 record=0,0,1,0,0,0,5 durations=12,2000,7000,50000,400000,1600000,400,20000
+//! 05 00*2 account=3 running=7,12 totals=7:12,9:2000 most=7:12,9:2000 numbers=7:1,9:1
 //! ```
 //!
 //! `22*3` stands for `22 22 22`. The record's words are BPL, BP0, WEL, RSTE, OTP used, the mode (0 awake, 1 deep, 2 ultra-deep) and the
-//! busy ticks. What is not said is as in [`Call::of`].
+//! busy ticks. A call with an account goes through the ledger. One with any of the words `running`, `totals`, `most` and `numbers` hands a
+//! ledger over: whose operation runs and what it was billed, and what the accounts have that have anything. What is not said is as in
+//! [`Call::of`], and as in an empty ledger.
 use crate::call::{Call, ARRAY_ROOM, OUTPUT_ROOM, REGISTER_ROOM};
 use crate::reply::{record_of, words_of};
+use oxterin::{Ledger, Running};
 use std::fmt::Display;
 
 /// The lines of these calls.
@@ -58,7 +62,24 @@ fn line(call: &Call) -> String {
     if let Some(record) = &call.record {
         say(true, format!("record={}", list(&words_of(record))));
     }
+    if let Some(account) = call.account {
+        say(true, format!("account={account}"));
+    }
+    if let Some(ledger) = &call.ledger {
+        let Running { account, billed } = ledger.running;
+        say(true, format!("running={account},{billed}"));
+        for (name, table) in [("totals", &ledger.totals), ("most", &ledger.most), ("numbers", &ledger.numbers)] {
+            say(table.iter().any(|&word| word != 0), format!("{name}={}", entries(table)));
+        }
+    }
     words.join(" ")
+}
+
+/// What a table has other than 0, by account.
+fn entries(table: &[u64; Ledger::ACCOUNTS]) -> String {
+    let entries = table.iter().enumerate().filter(|(_, &word)| word != 0);
+    let words: Vec<String> = entries.map(|(account, word)| format!("{account}:{word}")).collect();
+    list(&words)
 }
 
 /// The input as words, equal neighbours drawn together.
@@ -120,7 +141,29 @@ fn read_field(call: &mut Call, field: &str) -> Result<(), String> {
         "output" => call.output = limited(value, OUTPUT_ROOM)?,
         "durations" => call.durations = numbers(value)?,
         "record" => call.record = Some(record_of(&numbers(value)?).ok_or(format!("{value} is no record"))?),
+        "account" => call.account = Some(number(value)?),
+        "running" => {
+            let [account, billed] = numbers(value)?;
+            handed(call).running = Running { account, billed };
+        }
+        "totals" => read_entries(&mut handed(call).totals, value)?,
+        "most" => read_entries(&mut handed(call).most, value)?,
+        "numbers" => read_entries(&mut handed(call).numbers, value)?,
         _ => return Err(format!("{name} is no field")),
+    }
+    Ok(())
+}
+
+/// The ledger that a call hands over, empty at first.
+fn handed(call: &mut Call) -> &mut Ledger {
+    call.ledger.get_or_insert_with(Box::default)
+}
+
+/// Takes over words such as `7:12,9:2000` into a table.
+fn read_entries(table: &mut [u64; Ledger::ACCOUNTS], text: &str) -> Result<(), String> {
+    for entry in text.split(',') {
+        let (account, word) = entry.split_once(':').ok_or(format!("{entry} has no account"))?;
+        table[limited(account, Ledger::ACCOUNTS - 1)?] = number(word)?;
     }
     Ok(())
 }
@@ -148,6 +191,7 @@ fn numbers<const COUNT: usize>(text: &str) -> Result<[u64; COUNT], String> {
 mod tests {
     use super::*;
     use crate::generator::Generator;
+    use crate::ledger;
     use crate::random::Random;
     use oxterin::Record;
 
@@ -157,6 +201,35 @@ mod tests {
         let record = Record::fresh(true, false, true);
         let calls: Vec<Call> = (0..2_000).map(|_| generator.call(&record)).collect();
         assert_eq!(read(&write(&calls)), Ok(calls));
+    }
+
+    #[test]
+    fn what_is_written_of_a_ledger_is_read_back() {
+        for seed in 0..20 {
+            let mut generator = ledger::Generator::new(Random::seeded(seed), 65_536);
+            let record = Record::fresh(true, false, true);
+            let calls: Vec<Call> = (0..200).map(|_| generator.call(&record, &Ledger::empty())).collect();
+            assert_eq!(read(&write(&calls)), Ok(calls));
+        }
+    }
+
+    #[test]
+    fn a_ledger_is_said_by_what_it_has() {
+        let mut ledger = Ledger::empty();
+        (ledger.totals[7], ledger.totals[255], ledger.numbers[0]) = (12, 3, u64::MAX);
+        let with = |ledger| Call {
+            account: Some(256),
+            ledger: Some(Box::new(ledger)),
+            ..Call::of(&[0x06])
+        };
+        assert_eq!(
+            write(&[with(Ledger::empty()), with(ledger.clone())]),
+            "06 account=256 running=256,0\n06 account=256 running=256,0 totals=7:12,255:3 numbers=0:18446744073709551615\n"
+        );
+        assert_eq!(
+            read("06 account=256 totals=7:12,255:3 numbers=0:18446744073709551615"),
+            Ok(vec![with(ledger)])
+        );
     }
 
     #[test]
@@ -199,6 +272,12 @@ mod tests {
             "06 speed=3",
             "06 ticks-per-byte=",
             "06 ticks-per-byte=18446744073709551616",
+            "06 account=",
+            "06 account=x",
+            "06 running=3",
+            "06 totals=256:1",
+            "06 most=7",
+            "06 numbers=7:-1",
             "06*66000",
         ] {
             assert!(read(line).is_err_and(|wrong| wrong.starts_with(line)), "{line}");

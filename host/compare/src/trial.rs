@@ -4,7 +4,7 @@ use crate::difference::Difference;
 use crate::opcodes::CHANGES;
 use crate::reply::{record_of, Reply};
 use crate::side::{by_model, by_words, by_wrapper, Memories, Run, Side, CANARY};
-use oxterin::{Mode, Record};
+use oxterin::{Ledger, Mode, Record};
 
 /// How often the memories are compared whole.
 #[derive(Clone, Copy, Debug, PartialEq, Eq)]
@@ -19,7 +19,7 @@ pub enum Care {
 /// The place of the model among the sides.
 const MODEL: usize = 2;
 
-/// Three sides, the memories as they have to stand, and the record that the next call is given.
+/// Three sides, the memories as they have to stand, and the record and the ledger that the next call is given.
 pub struct Trial {
     /// The face, the wrapper and the model.
     sides: [Side; 3],
@@ -29,6 +29,8 @@ pub struct Trial {
     pattern: Memories,
     /// The record that the last call gave back.
     record: Record,
+    /// The ledger as the calls through it left it.
+    ledger: Ledger,
     /// How many output bytes the last call wrote.
     written: usize,
     /// How often the memories are compared.
@@ -36,7 +38,7 @@ pub struct Trial {
 }
 
 impl Trial {
-    /// A trial whose memories hold a pattern and whose record is fresh.
+    /// A trial whose memories hold a pattern, whose record is fresh and whose ledger is empty.
     #[must_use]
     pub fn new(care: Care) -> Trial {
         Trial::of([("the face", by_words), ("the wrapper", by_wrapper), ("the model", by_model)], care)
@@ -49,6 +51,7 @@ impl Trial {
             kept: Memories::patterned(),
             pattern: Memories::patterned(),
             record: Record::fresh(false, false, false),
+            ledger: Ledger::empty(),
             written: 0,
             care,
         }
@@ -58,6 +61,12 @@ impl Trial {
     #[must_use]
     pub fn record(&self) -> &Record {
         &self.record
+    }
+
+    /// The ledger as the calls through it left it.
+    #[must_use]
+    pub fn ledger(&self) -> &Ledger {
+        &self.ledger
     }
 
     /// The output bytes that the last call wrote, on which the sides agree.
@@ -76,6 +85,9 @@ impl Trial {
         if self.care == Care::WhenDue && may_begin(&before, call) {
             self.check()?;
         }
+        if let Some(ledger) = &call.ledger {
+            self.put(ledger);
+        }
         let replies = self.sides.each_mut().map(|side| side.answer(call, &before));
         let Some(reply) = replies[MODEL] else {
             return Err(Difference::panic(self.sides[MODEL].name));
@@ -87,6 +99,12 @@ impl Trial {
         }
         self.written = if reply.refusal == 0 { call.input.len().min(call.output) } else { 0 };
         self.compare_outputs(&mut found);
+        if call.account.is_some() {
+            if reply.refusal == 0 {
+                self.ledger = self.sides[MODEL].ledger.ledger();
+            }
+            self.compare_ledgers(&mut found);
+        }
         if reply.outcome == "begun" {
             self.kept.copy(&self.sides[MODEL].memories);
         }
@@ -109,7 +127,7 @@ impl Trial {
         found.verdict()
     }
 
-    /// Begins anew with patterned memories and a fresh record, the old memories having been compared.
+    /// Begins anew with patterned memories, a fresh record and an empty ledger, the old memories having been compared.
     ///
     /// # Errors
     ///
@@ -121,7 +139,16 @@ impl Trial {
         }
         self.kept.copy(&self.pattern);
         self.record = Record::fresh(false, false, false);
+        self.put(&Ledger::empty());
         Ok(())
+    }
+
+    /// Hands a ledger to every side.
+    fn put(&mut self, ledger: &Ledger) {
+        for side in &mut self.sides {
+            side.ledger.put(ledger);
+        }
+        self.ledger.clone_from(ledger);
     }
 
     /// The written bytes are the model's, and all others are as before the call.
@@ -130,6 +157,13 @@ impl Trial {
             let (output, rest) = side.output.split_at(self.written);
             found.bytes(side.name, "output", output, self.output());
             found.bytes(side.name, "byte past the output", rest, &CANARY[self.written..side.output.len()]);
+        }
+    }
+
+    /// Every word of every ledger is as it has to be, the guards too.
+    fn compare_ledgers(&self, found: &mut Difference) {
+        for side in &self.sides {
+            side.ledger.compare(side.name, &self.ledger, found);
         }
     }
 
@@ -160,7 +194,9 @@ fn may_begin(record: &Record, call: &Call) -> bool {
 #[cfg(test)]
 mod tests {
     use super::*;
+    use crate::ledger::Kept;
     use crate::side::Lent;
+    use oxterin::Running;
 
     /// A write enable, an aborted program, a refused call, a read, an erase of the page that the program aimed at, and a poll of it.
     fn calls() -> Vec<Call> {
@@ -183,16 +219,151 @@ mod tests {
         vec![enable.clone(), aborted, refused, read, enable, erase, poll]
     }
 
+    /// A write of RSTE and a program by account 3, a poll of account 7, two refused ones, and a reset by account 9.
+    fn calls_for_accounts() -> Vec<Call> {
+        let enable = Call::of(&[0x06]);
+        let program = Call {
+            elapsed: 4,
+            ..Call::of(&[0x02, 0, 0x10, 0, 0, 0])
+        };
+        let poll = Call {
+            elapsed: 5,
+            ticks_per_byte: 2,
+            ..Call::of(&[0x05, 0])
+        };
+        let refused = Call {
+            register: 127,
+            ..poll.clone()
+        };
+        let reset = Call {
+            elapsed: 100,
+            ..Call::of(&[0xF0, 0xD0])
+        };
+        let calls = [
+            (3, enable.clone()),
+            (3, Call::of(&[0x31, 0x10])),
+            (3, enable),
+            (3, program),
+            (7, poll.clone()),
+            (7, refused),
+            (256, poll),
+            (9, reset),
+        ];
+        let with_accounts = calls.map(|(account, call)| Call {
+            account: Some(account),
+            ..call
+        });
+        with_accounts.to_vec()
+    }
+
     /// The place of the first call that shows a difference when the face is replaced by this run.
     fn first_difference(face: Run, care: Care) -> Option<usize> {
+        first_difference_in(&calls(), face, care)
+    }
+
+    /// The same with these calls.
+    fn first_difference_in(calls: &[Call], face: Run, care: Care) -> Option<usize> {
         let mut trial = Trial::of([("a sham", face), ("the wrapper", by_wrapper), ("the model", by_model)], care);
-        calls().iter().position(|call| trial.run(call).is_err())
+        calls.iter().position(|call| trial.run(call).is_err())
+    }
+
+    /// The same with calls through a ledger.
+    fn first_difference_in_ledgers(face: Run) -> Option<usize> {
+        first_difference_in(&calls_for_accounts(), face, Care::WhenDue)
     }
 
     #[test]
     fn the_sides_agree() {
         assert_eq!(first_difference(by_words, Care::Always), None);
         assert_eq!(first_difference(by_words, Care::WhenDue), None);
+        assert_eq!(first_difference_in_ledgers(by_words), None);
+    }
+
+    #[test]
+    fn the_ledger_is_what_the_calls_left() {
+        let mut trial = Trial::new(Care::Always);
+        let calls = calls_for_accounts();
+        for call in &calls[..7] {
+            trial.run(call).expect("the sides agree");
+        }
+        let mut ledger = Ledger::empty();
+        (ledger.totals[3], ledger.most[3], ledger.numbers[3]) = (9, 9, 1);
+        ledger.running = Running { account: 3, billed: 9 };
+        assert_eq!(trial.ledger(), &ledger);
+        trial.run(&calls[7]).expect("the sides agree");
+        (ledger.totals[3], ledger.most[3], ledger.running) = (109, 109, Running::NOBODY);
+        assert_eq!(trial.ledger(), &ledger);
+
+        ledger.totals[3] = 5;
+        let handed = Call {
+            ledger: Some(Box::new(ledger.clone())),
+            ..calls[6].clone()
+        };
+        assert_eq!(trial.run(&handed).map(|reply| reply.refusal), Ok(9));
+        assert_eq!(trial.ledger(), &ledger);
+        trial.reset().expect("the memories agree");
+        assert_eq!(trial.ledger(), &Ledger::empty());
+    }
+
+    #[test]
+    fn a_wrong_word_of_a_ledger_or_beside_it_is_a_difference() {
+        let spoil: [fn(&mut Kept); 8] = [
+            |ledger| ledger.totals.words[255] += 1,
+            |ledger| ledger.most.words[0] += 1,
+            |ledger| ledger.numbers.words[77] += 1,
+            |ledger| ledger.running.words[0] = 300,
+            |ledger| ledger.running.words[1] = 1,
+            |ledger| ledger.totals.before[3] = 0,
+            |ledger| ledger.numbers.behind[0] = 0,
+            |ledger| ledger.running.behind[0] = 0,
+        ];
+        for spoil in spoil {
+            let mut trial = Trial::new(Care::WhenDue);
+            let call = Call {
+                account: Some(0),
+                register: 127,
+                ..Call::of(&[0x06])
+            };
+            assert!(trial.run(&call).is_ok());
+            spoil(&mut trial.sides[0].ledger);
+            assert!(trial.run(&call).is_err());
+        }
+    }
+
+    #[test]
+    fn a_ledger_that_bills_wrongly_is_a_difference() {
+        let the_caller: Run = |call, record, lent| {
+            let running = &mut lent.ledger.running.words;
+            running[0] = call.account.filter(|_| running[0] < 256).unwrap_or(running[0]);
+            by_words(call, record, lent)
+        };
+        assert_eq!(first_difference_in_ledgers(the_caller), Some(4));
+        let refused_calls: Run = |call, record, mut lent| {
+            let reply = by_words(call, record, whole(&mut lent));
+            lent.ledger.totals.words[3] += if reply.refusal == 0 { 0 } else { call.elapsed };
+            reply
+        };
+        assert_eq!(first_difference_in_ledgers(refused_calls), Some(5));
+        let only_refusal_9: Run = |call, record, mut lent| {
+            let reply = by_words(call, record, whole(&mut lent));
+            lent.ledger.running.words[1] += u64::from(reply.refusal == 9);
+            reply
+        };
+        assert_eq!(first_difference_in_ledgers(only_refusal_9), Some(6));
+        let the_frame_that_begins: Run = |call, record, mut lent| {
+            let reply = by_words(call, record, whole(&mut lent));
+            lent.ledger.totals.words[3] += if reply.outcome == "begun" { call.elapsed } else { 0 };
+            reply
+        };
+        assert_eq!(first_difference_in_ledgers(the_frame_that_begins), Some(3));
+        let the_rest_after_a_reset: Run = |call, record, mut lent| {
+            let reply = by_words(call, record, whole(&mut lent));
+            if call.opcode() == Some(0xF0) {
+                lent.ledger.totals.words[3] += record.busy - call.elapsed;
+            }
+            reply
+        };
+        assert_eq!(first_difference_in_ledgers(the_rest_after_a_reset), Some(7));
     }
 
     #[test]
@@ -303,6 +474,7 @@ mod tests {
             array: lent.array,
             register: lent.register,
             output: lent.output,
+            ledger: lent.ledger,
         }
     }
 }

@@ -34,7 +34,9 @@ fn long_random_series_agree() {
 #[test]
 fn a_written_series_is_replayed() {
     let built_in = "06\n02 00 00 FE 11 22 33\n05 00*2 elapsed=1\n03 00 00 FE 00*3 elapsed=2000\n06 bits=9\n\
-                    06\n20 00*3 ticks-per-byte=1000\n05 00*4 elapsed=49980 ticks-per-byte=8\n"
+                    06\n20 00*3 ticks-per-byte=1000\n05 00*4 elapsed=49980 ticks-per-byte=8\n\
+                    06 account=3\n20 00*3 account=3\n05 00*2 account=7 elapsed=9 ticks-per-byte=8\n06 account=256\n\
+                    05 account=7 elapsed=60000 running=7,5 totals=7:9000000000000000000\n05 account=7\n"
         .to_string();
     let series = env::var("COMPARE_REPLAY").map_or(built_in, |path| std::fs::read_to_string(path).expect("the series can be read"));
     let calls = text::read(&series).unwrap_or_else(|wrong| panic!("{wrong}"));

@@ -1,4 +1,5 @@
-//! Every refusal at and beside its limit, and any together: the lowest number wins. And words that stand for nothing: 255.
+//! Every refusal of a bare frame at and beside its limit, and any together, the ledger's too: the lowest number wins. And words that stand
+//! for nothing: 255.
 use compare::{Call, Care, Reply, Trial};
 use oxterin::{Mode, Record, Size};
 
@@ -215,7 +216,7 @@ fn eight_too_many_ticks_per_byte() {
 
 #[test]
 fn of_any_refusals_together_the_lowest_wins() {
-    let spoil: [fn(&mut Call); 8] = [
+    let spoil: [fn(&mut Call); 9] = [
         |call| call.array = 65_537,
         |call| call.register = 127,
         |call| {
@@ -233,17 +234,20 @@ fn of_any_refusals_together_the_lowest_wins() {
         },
         |call| call.durations[7] = 0,
         |call| call.ticks_per_byte = PACE_LIMIT + 1,
+        |call| call.account = Some(256),
     ];
     let mut trial = Trial::new(Care::Always);
     for chosen in 0u32..1 << spoil.len() {
-        let mut call = program(5);
-        for (place, spoil) in spoil.iter().enumerate() {
-            if chosen >> place & 1 != 0 {
-                spoil(&mut call);
+        for account in [None, Some(255)] {
+            let mut call = Call { account, ..program(5) };
+            for (place, spoil) in spoil.iter().enumerate() {
+                if chosen >> place & 1 != 0 {
+                    spoil(&mut call);
+                }
             }
+            let lowest = if chosen == 0 { 0 } else { u64::from(chosen.trailing_zeros()) + 1 };
+            gives(&mut trial, &call, lowest);
         }
-        let lowest = if chosen == 0 { 0 } else { u64::from(chosen.trailing_zeros()) + 1 };
-        gives(&mut trial, &call, lowest);
     }
 }
 
@@ -254,7 +258,7 @@ mod unread {
     /// What is put in the place of a flag, a mode or a memory that is known.
     const UNKNOWN_FLAGS: [u64; 3] = [2, 1 << 32, u64::MAX];
 
-    /// All arguments of a frame by words.
+    /// All arguments of a frame by words, with those that it has through a ledger.
     #[derive(Clone, Debug, PartialEq, Eq)]
     struct Frame {
         record: Vec<u64>,
@@ -265,10 +269,14 @@ mod unread {
         input: Vec<u8>,
         output: Vec<u8>,
         answer: Vec<u64>,
+        running: Vec<u64>,
+        totals: [u64; 256],
+        most: [u64; 256],
+        numbers: [u64; 256],
     }
 
     impl Frame {
-        /// A program that is accepted and changes the array.
+        /// A program that is accepted and changes the array and the ledger.
         fn accepted() -> Frame {
             Frame {
                 record: vec![0, 0, 1, 0, 0, 0, 0],
@@ -279,6 +287,10 @@ mod unread {
                 input: vec![0x02, 0, 0, 0, 0],
                 output: vec![0x77; 9],
                 answer: vec![99; 3],
+                running: vec![7, 5],
+                totals: [71; 256],
+                most: [72; 256],
+                numbers: [73; 256],
             }
         }
 
@@ -296,13 +308,46 @@ mod unread {
             )
         }
 
-        /// Asserts that these arguments, and the same with a memory that is refused, are answered with 255 and stay as they are.
-        fn assert_unread(mut self) {
+        /// The frame through the ledger for an account, and its number.
+        fn run_for(&mut self, account: u64) -> u64 {
+            raw::ledger_frame(
+                &mut self.record,
+                &self.settings,
+                &self.signals,
+                &mut self.array,
+                &mut self.register,
+                &self.input,
+                &mut self.output,
+                &mut self.answer,
+                account,
+                &mut self.running,
+                &mut self.totals,
+                &mut self.most,
+                &mut self.numbers,
+            )
+        }
+
+        /// Asserts that these arguments, and the same with a memory that is refused, are answered with 255 and stay as they are, through
+        /// the ledger too.
+        fn assert_unread(self) {
+            self.assert_unread_by(Frame::run);
+            self.assert_unread_by_the_ledger();
+        }
+
+        /// The same through the ledger alone, for an account and for none.
+        fn assert_unread_by_the_ledger(&self) {
+            self.assert_unread_by(|frame| frame.run_for(9));
+            self.assert_unread_by(|frame| frame.run_for(256));
+        }
+
+        /// The same with one way to run the frame.
+        fn assert_unread_by(&self, run: fn(&mut Frame) -> u64) {
+            let mut frame = self.clone();
             for _ in 0..2 {
-                let before = self.clone();
-                assert_eq!(self.run(), raw::UNREAD);
-                assert!(self == before, "{:?} {:?} {:?}", before.record, before.settings, before.signals);
-                self.array.clear();
+                let before = frame.clone();
+                assert_eq!(run(&mut frame), raw::UNREAD);
+                assert!(frame == before, "{:?} {:?} {:?}", before.record, before.settings, before.signals);
+                frame.array.clear();
             }
         }
     }
@@ -322,6 +367,43 @@ mod unread {
         assert_eq!(frame.record, [0, 0, 0, 0, 0, 0, 12]);
         assert_eq!(frame.array[..2], [0x00, 0xA5]);
         assert_eq!(frame.output, [0xFF, 0xFF, 0xFF, 0xFF, 0xFF, 0x77, 0x77, 0x77, 0x77]);
+    }
+
+    #[test]
+    fn through_the_ledger_it_is_accepted_too() {
+        let (mut bare, mut frame) = (Frame::accepted(), Frame::accepted());
+        assert_eq!((bare.run(), frame.run_for(9)), (0, 0));
+        assert_eq!((frame.running, frame.numbers[9]), (vec![9, 0], 74));
+        (frame.running, frame.numbers[9]) = (bare.running.clone(), 73);
+        assert!(frame == bare);
+    }
+
+    #[test]
+    fn a_running_part_of_another_length() {
+        for running in [&[][..], &[7], &[7, 5, 0]] {
+            let frame = Frame {
+                running: running.to_vec(),
+                ..Frame::accepted()
+            };
+            frame.assert_unread_by_the_ledger();
+        }
+    }
+
+    #[test]
+    fn a_line_of_another_length_is_not_written() {
+        let Frame { totals, most, numbers, .. } = Frame::accepted();
+        for length in [0, 1, 2, 4] {
+            for account in [0, 255, 256, u64::MAX] {
+                let mut line = vec![99; length];
+                assert_eq!(raw::report(&totals, &most, &numbers, account, &mut line), raw::UNREAD);
+                assert_eq!(line, vec![99; length]);
+            }
+        }
+        let mut line = [99; 3];
+        assert_eq!(raw::report(&totals, &most, &numbers, 256, &mut line), 9);
+        assert_eq!(line, [99; 3]);
+        assert_eq!(raw::report(&totals, &most, &numbers, 255, &mut line), 0);
+        assert_eq!(line, [71, 72, 73]);
     }
 
     #[test]

@@ -7,6 +7,9 @@
 //! select `rise::settle` turns what was gathered into changes of the record
 //! and of the two memories.
 //!
+//! Above the frames, [`Books`] bill busy time to accounts, as request R-4 wants
+//! it.
+//!
 //! Apart from the frames, [`hex_write`] and [`hex_read`] turn an array into
 //! Intel HEX text and such a text into an array.
 
@@ -14,6 +17,7 @@
 
 mod decoder;
 mod hex;
+mod ledger;
 mod machine;
 mod page;
 mod record;
@@ -22,6 +26,7 @@ mod rise;
 mod view;
 
 pub use hex::{hex_read, hex_write};
+pub use ledger::{Books, Running, Tables};
 use machine::Machine;
 pub use record::{Mode, Record, Settings};
 pub use view::{look, Memory};
@@ -93,12 +98,7 @@ pub fn frame(
     pins: Pins,
     output: &mut [u8],
 ) -> Answer {
-    let lengths = refusals::Lengths {
-        array: array.len(),
-        register: register.len(),
-        input: input.len(),
-        output: output.len(),
-    };
+    let lengths = refusals::Lengths::of(array, register, input, output);
     let refusal = refusals::judge(&lengths, &record, settings, &pins);
     if refusal != refusals::NONE {
         return Answer::refused(refusal, record);

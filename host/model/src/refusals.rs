@@ -28,6 +28,18 @@ pub(crate) struct Lengths {
     pub(crate) output: usize,
 }
 
+impl Lengths {
+    /// The lengths of what is lent in a call.
+    pub(crate) fn of(array: &[u8], register: &[u8], input: &[u8], output: &[u8]) -> Lengths {
+        Lengths {
+            array: array.len(),
+            register: register.len(),
+            input: input.len(),
+            output: output.len(),
+        }
+    }
+}
+
 /// The number of the first check that fails, in document 01's numbering, which
 /// request R-2 continues.
 pub(crate) fn judge(lengths: &Lengths, record: &Record, settings: &Settings, pins: &Pins) -> u8 {

@@ -68,6 +68,12 @@ impl Signals {
     pub fn frame_ticks(&self) -> u64 {
         self.bits.div_ceil(8).saturating_mul(self.ticks_per_byte)
     }
+
+    /// The signals as the face's words.
+    #[inline]
+    pub(crate) fn words(&self) -> [u64; raw::SIGNALS] {
+        [self.bits, self.wp_high.into(), self.elapsed, self.ticks_per_byte]
+    }
 }
 
 /// Why a call was refused. Then nothing has changed, and neither its elapsed nor its frame's ticks count.
@@ -90,11 +96,13 @@ pub enum Refusal {
     Duration = 7,
     /// 8: more than 1,000 ticks per byte position.
     TicksPerByte = 8,
+    /// 9: through a ledger, the account is over 255, or an account's total or number of operations is above 9,000,000,000,000,000,000.
+    Account = 9,
 }
 
 impl Refusal {
     /// All refusals, in the order of their numbers.
-    pub const ALL: [Refusal; 8] = [
+    pub const ALL: [Refusal; 9] = [
         Refusal::ArrayLength,
         Refusal::RegisterLength,
         Refusal::InputLength,
@@ -103,6 +111,7 @@ impl Refusal {
         Refusal::Record,
         Refusal::Duration,
         Refusal::TicksPerByte,
+        Refusal::Account,
     ];
 
     /// Its number.
@@ -112,7 +121,7 @@ impl Refusal {
     }
 
     /// The refusal of this number; 0 is none, and no well-formed call gives another.
-    fn of_number(number: u64) -> Option<Refusal> {
+    pub(crate) fn of_number(number: u64) -> Option<Refusal> {
         let place = usize::try_from(number).ok()?.checked_sub(1)?;
         Some(Refusal::ALL[place])
     }
@@ -129,6 +138,7 @@ impl fmt::Display for Refusal {
             Refusal::Record => "the record has more than 60,000,000 busy ticks left, or any while asleep",
             Refusal::Duration => "a duration is 0 or over 60,000,000 ticks",
             Refusal::TicksPerByte => "more than 1,000 ticks per byte position",
+            Refusal::Account => "the account is over 255, or an account's total or number of operations is above 9,000,000,000,000,000,000",
         };
         write!(f, "refusal {}: {why}", self.number())
     }
@@ -215,18 +225,17 @@ pub fn frame(
     signals: Signals,
     output: &mut [u8],
 ) -> Result<Answer, Refusal> {
+    on_words(record, |words, answer| {
+        raw::frame(words, &settings.words(), &signals.words(), array, register, input, output, answer)
+    })
+}
+
+/// Makes a call on a record's words and those of an answer. If it is accepted, the record becomes what its words then stand for.
+#[inline]
+pub(crate) fn on_words(record: &mut Record, call: impl FnOnce(&mut [u64], &mut [u64]) -> u64) -> Result<Answer, Refusal> {
     let mut words = record.words();
     let mut answer = [0; raw::ANSWER];
-    let number = raw::frame(
-        &mut words,
-        &settings.words(),
-        &[signals.bits, signals.wp_high.into(), signals.elapsed, signals.ticks_per_byte],
-        array,
-        register,
-        input,
-        output,
-        &mut answer,
-    );
+    let number = call(&mut words, &mut answer);
     if let Some(refusal) = Refusal::of_number(number) {
         return Err(refusal);
     }
@@ -389,8 +398,8 @@ mod tests {
     }
 
     #[test]
-    fn refusals_are_numbered_from_1_to_8() {
-        assert_eq!(Refusal::ALL.map(Refusal::number), [1, 2, 3, 4, 5, 6, 7, 8]);
+    fn refusals_are_numbered_from_1_to_9() {
+        assert_eq!(Refusal::ALL.map(Refusal::number), [1, 2, 3, 4, 5, 6, 7, 8, 9]);
         assert_eq!(Refusal::of_number(0), None);
         for refusal in Refusal::ALL {
             assert_eq!(Refusal::of_number(refusal.number().into()), Some(refusal));
@@ -398,6 +407,10 @@ mod tests {
         assert_eq!(
             Refusal::TicksPerByte.to_string(),
             "refusal 8: more than 1,000 ticks per byte position"
+        );
+        assert_eq!(
+            Refusal::Account.to_string(),
+            "refusal 9: the account is over 255, or an account's total or number of operations is above 9,000,000,000,000,000,000"
         );
     }
 

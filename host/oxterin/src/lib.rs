@@ -1,7 +1,7 @@
 //! A simulated AT25XE011, over a library whose every function is proved to answer as the data sheet's rules say.
 //!
-//! [`Part`] owns its memories; [`frame`] works on memories that you lend; [`hex_text`] and [`hex_read`] turn an array into Intel HEX text
-//! and back; [`raw`] is the face that C programs see, words and bytes.
+//! [`Part`] owns its memories; [`frame`] works on memories that you lend; a [`Ledger`] bills busy time to the account whose frame began it;
+//! [`hex_text`] and [`hex_read`] turn an array into Intel HEX text and back; [`raw`] is the face that C programs see, words and bytes.
 //! Time passes only as the caller says, in ticks that come with each frame: those elapsed before it, and those that each of its byte
 //! positions takes ([`Signals::with_ticks_per_byte`]).
 //!
@@ -19,23 +19,43 @@
 //! assert_eq!(part.frame(&poll, later)?.output, [0xFF, 0x10]);
 //! # Ok::<(), oxterin::Refusal>(())
 //! ```
+//!
+//! Where several accounts share a part, their frames go through a ledger:
+//!
+//! ```
+//! use oxterin::{Ledger, Line, Part, Signals, Size};
+//!
+//! let mut part = Part::blank(Size::Whole);
+//! let mut ledger = Ledger::empty();
+//! part.send_for(7, &mut ledger, &[0x06])?;
+//! part.send_for(7, &mut ledger, &[0x20, 0x00, 0x10, 0x00])?; // account 7 begins an erase of 50,000 ticks
+//!
+//! let poll = [0x05, 0x00];
+//! let later = Signals { elapsed: 60_000, ..Signals::whole(&poll) };
+//! part.frame_for(9, &mut ledger, &poll, later)?; // and account 9 polls
+//! assert_eq!(ledger.line(7)?, Line { total: 50_000, most: 50_000, number: 1 });
+//! assert_eq!(ledger.line(9)?, Line { total: 0, most: 0, number: 0 });
+//! # Ok::<(), oxterin::Refusal>(())
+//! ```
 #![deny(unsafe_code)]
 
 mod frame;
 mod hex;
+mod ledger;
 mod part;
 pub mod raw;
 mod record;
 
 pub use frame::{frame, look, Answer, Memory, Outcome, Refusal, Signals};
 pub use hex::{hex_read, hex_text, hex_write, HexError, HexRefusal};
+pub use ledger::{frame_for, Ledger, Line, Running};
 pub use part::{Exchange, ImageLength, Part, Size};
 pub use record::{Mode, Record, Settings};
 
 /// How the proved library in this program was built: for which machine, and by which way.
 pub const BUILT: &str = env!("OXTERIN_BUILT");
 
-/// The version of the proved face, such as `1.2.0`.
+/// The version of the proved face, such as `1.3.0`.
 #[must_use]
 pub fn version() -> String {
     let number = raw::version();

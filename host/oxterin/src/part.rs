@@ -1,5 +1,6 @@
 //! A part that owns its memories.
 use crate::frame::{frame, look, Answer, Memory, Refusal, Signals};
+use crate::ledger::{frame_for, Ledger};
 use crate::record::{Record, Settings};
 use std::error::Error;
 use std::fmt;
@@ -123,16 +124,53 @@ impl Part {
     ///
     /// A refused call changes nothing.
     pub fn frame(&mut self, input: &[u8], signals: Signals) -> Result<Exchange, Refusal> {
+        self.exchange(input, |part, output| {
+            frame(
+                &mut part.record,
+                &part.settings,
+                &mut part.array,
+                &mut part.register,
+                input,
+                signals,
+                output,
+            )
+        })
+    }
+
+    /// A frame of whole bytes as [`Part::send`] sends it, for an account, billed in a ledger.
+    ///
+    /// # Errors
+    ///
+    /// A refused call changes nothing.
+    pub fn send_for(&mut self, account: u64, ledger: &mut Ledger, input: &[u8]) -> Result<Exchange, Refusal> {
+        self.frame_for(account, ledger, input, Signals::whole(input))
+    }
+
+    /// Any frame for an account, billed in a ledger.
+    ///
+    /// # Errors
+    ///
+    /// A refused call changes nothing, the ledger neither.
+    pub fn frame_for(&mut self, account: u64, ledger: &mut Ledger, input: &[u8], signals: Signals) -> Result<Exchange, Refusal> {
+        self.exchange(input, |part, output| {
+            frame_for(
+                account,
+                ledger,
+                &mut part.record,
+                &part.settings,
+                &mut part.array,
+                &mut part.register,
+                input,
+                signals,
+                output,
+            )
+        })
+    }
+
+    /// What a call answers, with the output that it writes.
+    fn exchange(&mut self, input: &[u8], call: impl FnOnce(&mut Part, &mut [u8]) -> Result<Answer, Refusal>) -> Result<Exchange, Refusal> {
         let mut output = vec![0; input.len()];
-        let answer = frame(
-            &mut self.record,
-            &self.settings,
-            &mut self.array,
-            &mut self.register,
-            input,
-            signals,
-            &mut output,
-        )?;
+        let answer = call(self, &mut output)?;
         Ok(Exchange { output, answer })
     }
 

@@ -2,7 +2,7 @@
 //!
 //! Each function takes slices of any length. A slice of words that has another length than the one stated, a flag that is neither 0 nor
 //! 1, or an unknown mode or memory is answered with [`UNREAD`], and then nothing has changed. The signals alone may have one word less:
-//! [`SIGNALS`].
+//! [`SIGNALS`]. The three tables of a ledger always have [`ACCOUNTS`] words.
 #![allow(unsafe_code)]
 
 /// The number that says that words stand for nothing.
@@ -22,6 +22,12 @@ pub const STATUS: usize = 2;
 pub const PLACE: usize = 2;
 /// The words that a call on HEX text tells: the characters written, or the place of the faulty record.
 pub const TOLD: usize = 1;
+/// The accounts of a ledger, and so the words of each of its three tables.
+pub const ACCOUNTS: usize = 256;
+/// The words of a ledger's running part: the account, any over 255 being nobody, and the ticks billed so far.
+pub const RUNNING: usize = 2;
+/// The words of an account's line: total, most, number.
+pub const LINE: usize = 3;
 
 extern "C" {
     fn oxterin_version() -> u64;
@@ -57,6 +63,31 @@ extern "C" {
         answer: *mut u64,
         answer_len: usize,
     ) -> u64;
+    fn oxterin_ledger_frame(
+        record: *mut u64,
+        record_len: usize,
+        settings: *const u64,
+        settings_len: usize,
+        signals: *const u64,
+        signals_len: usize,
+        array: *mut u8,
+        array_len: usize,
+        register: *mut u8,
+        register_len: usize,
+        input: *const u8,
+        input_len: usize,
+        output: *mut u8,
+        output_len: usize,
+        answer: *mut u64,
+        answer_len: usize,
+        account: u64,
+        running: *mut u64,
+        running_len: usize,
+        totals: *mut u64,
+        most: *mut u64,
+        numbers: *mut u64,
+    ) -> u64;
+    fn oxterin_report(totals: *const u64, most: *const u64, numbers: *const u64, account: u64, line: *mut u64, line_len: usize) -> u64;
     fn oxterin_hex_write(
         array: *const u8,
         array_len: usize,
@@ -69,7 +100,8 @@ extern "C" {
 }
 
 // Safety, for every call below: the proved functions read and write inside the slices that they are handed, whatever their lengths and
-// contents, keep no pointer, and end. A slice's own pointer and length are handed over, and a `&mut` one overlaps no other.
+// contents, keep no pointer, and end. A slice's own pointer and length are handed over, and a `&mut` one overlaps no other. A table has the
+// 256 words that the functions take it to have.
 
 /// The version of the proved face, a million for the first number and a thousand for the second.
 #[must_use]
@@ -139,6 +171,65 @@ pub fn frame(
             output.len(),
             answer.as_mut_ptr(),
             answer.len(),
+        )
+    }
+}
+
+/// One chip-select frame for an account, billed in a ledger. The number is the refusal's, 0 for an accepted call.
+#[allow(clippy::too_many_arguments)]
+pub fn ledger_frame(
+    record: &mut [u64],
+    settings: &[u64],
+    signals: &[u64],
+    array: &mut [u8],
+    register: &mut [u8],
+    input: &[u8],
+    output: &mut [u8],
+    answer: &mut [u64],
+    account: u64,
+    running: &mut [u64],
+    totals: &mut [u64; ACCOUNTS],
+    most: &mut [u64; ACCOUNTS],
+    numbers: &mut [u64; ACCOUNTS],
+) -> u64 {
+    unsafe {
+        oxterin_ledger_frame(
+            record.as_mut_ptr(),
+            record.len(),
+            settings.as_ptr(),
+            settings.len(),
+            signals.as_ptr(),
+            signals.len(),
+            array.as_mut_ptr(),
+            array.len(),
+            register.as_mut_ptr(),
+            register.len(),
+            input.as_ptr(),
+            input.len(),
+            output.as_mut_ptr(),
+            output.len(),
+            answer.as_mut_ptr(),
+            answer.len(),
+            account,
+            running.as_mut_ptr(),
+            running.len(),
+            totals.as_mut_ptr(),
+            most.as_mut_ptr(),
+            numbers.as_mut_ptr(),
+        )
+    }
+}
+
+/// Writes an account's line of a ledger. The number is the refusal's, 0 for an accepted call.
+pub fn report(totals: &[u64; ACCOUNTS], most: &[u64; ACCOUNTS], numbers: &[u64; ACCOUNTS], account: u64, line: &mut [u64]) -> u64 {
+    unsafe {
+        oxterin_report(
+            totals.as_ptr(),
+            most.as_ptr(),
+            numbers.as_ptr(),
+            account,
+            line.as_mut_ptr(),
+            line.len(),
         )
     }
 }

@@ -3,7 +3,7 @@ use Prim.Native.Nat.{_≤_}
 use mathlib.Core.Path.{_≡_, sym, _∙_}
 use borrow.Author.Needs.{needs}
 use Rattle.part.specs.Frame.{Call, Lent, call, lent, numberFor}
-use Rattle.ledger.specs.Ledger.{Ledger, ledger}
+use Rattle.accounts.specs.Ledger.{Ledger, ledger}
 use Rattle.ledger.proofs.Frames.{open-to, short, shut-frame, open-frame}
 use Rattle.ledger.proofs.frame_for.Statement.{statement}
 use Rattle.ledger.proofs.frame_for.Tie as tie

@@ -9,8 +9,8 @@ use lib.Dec.{eqb}
 use lib.ListN.{length, getD}
 use Rattle.lent.specs.declared.refusal.Refusal.{Refusal}
 use Rattle.lent.specs.Refusal.{numberOf}
-use Rattle.ledger.specs.declared.Reported.{Reported}
-use Rattle.ledger.specs.Ledger.{isAccount, reported}
+use Rattle.accounts.specs.declared.Reported.{Reported}
+use Rattle.accounts.specs.Ledger.{isAccount, reported}
 use Rattle.packing.specs.Packing.{writtenIf}
 use Rattle.ledgerwords.specs.Words.{reportWords}
 use Rattle.ledgerwords.proofs.report.Statement.{statement}

@@ -1,5 +1,7 @@
-//! How long a frame takes: the proved part, the model, and a plain copy or fill of as many bytes.
+//! How long a frame takes: the proved part, the model, and a plain copy or fill of as many bytes; and the proved part bare and through a
+//! ledger.
 use compare::measure::{processor, short, Contender, ROUND, ROUNDS};
+use oxterin::{raw, Ledger};
 use std::hint::black_box;
 use std::process::ExitCode;
 
@@ -30,6 +32,18 @@ enum Plain {
     Fill(usize),
 }
 
+/// A frame to be measured by words, bare and through a ledger.
+struct Billed {
+    /// What the table calls it.
+    name: &'static str,
+    /// Its bytes.
+    input: Vec<u8>,
+    /// The words of the record that it is handed.
+    record: [u64; raw::RECORD],
+    /// The number of the outcome that it has to come to.
+    outcome: u64,
+}
+
 fn main() -> ExitCode {
     if cfg!(debug_assertions) {
         eprintln!("bench: a debug build says nothing about speed; run it with --release");
@@ -38,10 +52,14 @@ fn main() -> ExitCode {
     print_conditions();
     let cases = cases();
     let mut contenders: Vec<Vec<Contender>> = cases.iter().map(contenders).collect();
+    let billed = billed();
+    let mut pairs: Vec<[Contender; 2]> = billed.iter().map(bare_and_billed).collect();
     for _ in 0..ROUNDS {
         contenders.iter_mut().flatten().for_each(Contender::measure);
+        pairs.iter_mut().flatten().for_each(Contender::measure);
     }
     print_table(&cases, &contenders);
+    print_billed(&billed, &pairs);
     ExitCode::SUCCESS
 }
 
@@ -72,6 +90,39 @@ fn cases() -> Vec<Case> {
         case("read, 8,188 bytes", read, "read", Plain::Copy(8_188)),
         poll("status read of 8,192 positions, busy, ticks per byte 0", 32_768, 0),
         poll("status read of 8,192 positions, busy for half of them, ticks per byte 8", 32_768, 8),
+    ]
+}
+
+/// The frames that are measured bare and through a ledger, in the order of the table.
+fn billed() -> Vec<Billed> {
+    let idle = [0, 0, 1, 0, 0, 0, 0];
+    let poll = |name, positions| {
+        let mut input = vec![0; positions];
+        input[0] = 0x05;
+        let record = [0, 0, 1, 0, 0, 0, 32_768];
+        Billed {
+            name,
+            input,
+            record,
+            outcome: 1,
+        }
+    };
+    vec![
+        poll("status read of 2 positions, busy", 2),
+        poll("status read of 64 positions, busy", 64),
+        poll("status read of 8,192 positions, busy", 8_192),
+        Billed {
+            name: "write enable",
+            input: vec![0x06],
+            record: idle,
+            outcome: 2,
+        },
+        Billed {
+            name: "program, 4 bytes",
+            input: vec![0x02, 0x00, 0x40, 0x00, 0x5A, 0x5A, 0x5A, 0x5A],
+            record: idle,
+            outcome: 4,
+        },
     ]
 }
 
@@ -159,6 +210,62 @@ fn modelled(case: &Case) -> Box<dyn FnMut(u64)> {
     })
 }
 
+/// A frame by words, bare and through a ledger in which account 7's operation runs.
+fn bare_and_billed(case: &Billed) -> [Contender; 2] {
+    let mut ledger = Box::new(Ledger::empty());
+    let bare = by_words(case, |words, settings, signals, [array, register, output], input, answer| {
+        raw::frame(words, settings, signals, array, register, input, output, answer)
+    });
+    let through = by_words(case, move |words, settings, signals, [array, register, output], input, answer| {
+        let mut running = black_box([7, 0]);
+        let Ledger { totals, most, numbers, .. } = ledger.as_mut();
+        let number = raw::ledger_frame(
+            words,
+            settings,
+            signals,
+            array,
+            register,
+            input,
+            output,
+            answer,
+            9,
+            &mut running,
+            totals,
+            most,
+            numbers,
+        );
+        black_box((&ledger, running));
+        number
+    });
+    [Contender::new(bare), Contender::new(through)]
+}
+
+/// A frame by words, before which a tick elapses, carried out by a call that is handed a record, settings, signals, the array, the register
+/// and the output, the input, and an answer.
+fn by_words(
+    case: &Billed,
+    mut call: impl FnMut(&mut [u64], &[u64], &[u64], [&mut [u8]; 3], &[u8], &mut [u64]) -> u64 + 'static,
+) -> Box<dyn FnMut(u64)> {
+    let (input, ready) = (case.input.clone(), case.record);
+    let (mut array, mut register, mut output) = memories(input.len());
+    let settings = oxterin::Settings::typical().words();
+    let signals = [8 * input.len() as u64, 1, 1, 0];
+    let mut frame = move || {
+        let mut record = black_box(ready);
+        let mut answer = [0; raw::ANSWER];
+        let lent = [&mut array[..], &mut register, &mut output];
+        let number = call(&mut record, &settings, &signals, lent, black_box(&input), &mut answer);
+        black_box((&array, &output, record));
+        (number, answer[0])
+    };
+    assert_eq!(frame(), (0, case.outcome), "{}", case.name);
+    Box::new(move |times| {
+        for _ in 0..times {
+            black_box(frame());
+        }
+    })
+}
+
 /// An array, a register and an output buffer for so many input bytes.
 fn memories(input: usize) -> (Vec<u8>, Vec<u8>, Vec<u8>) {
     let array = (0..131_072u32).map(|place| (place * 7 / 5) as u8).collect();
@@ -196,6 +303,11 @@ fn print_conditions() {
     println!("Each frame is handed a record with WEL set and no busy ticks by value, so that every program and erase begins; the status");
     println!("reads of 8,192 positions are handed 32,768 busy ticks. No other frame is in its time. The proved part is called through the");
     println!("safe wrapper.");
+    println!(
+        "The second table is of the same run: frames by words, bare (oxterin_frame) and through a ledger (oxterin_ledger_frame). A tick"
+    );
+    println!("elapses before each, and each finds an operation of another account running in a ledger that is warmed up and not cleared.");
+    println!("There the status reads are handed 32,768 busy ticks, of which the one that elapses is billed.");
     println!();
 }
 
@@ -217,6 +329,23 @@ fn print_table(cases: &[Case], contenders: &[Vec<Contender>]) {
             short(proved / model),
             plain.map_or("-".to_string(), short),
             plain.map_or("-".to_string(), |plain| short(proved / plain)),
+        );
+    }
+}
+
+/// A row for each frame that was measured both ways, with the least times.
+fn print_billed(billed: &[Billed], pairs: &[[Contender; 2]]) {
+    println!();
+    println!("| frame | bare, ns | through a ledger, ns | through a ledger / bare |");
+    println!("|---|--:|--:|--:|");
+    for (case, [bare, through]) in billed.iter().zip(pairs) {
+        let (bare, through) = (bare.best(), through.best());
+        println!(
+            "| {} | {} | {} | {} |",
+            case.name,
+            short(bare),
+            short(through),
+            short(through / bare)
         );
     }
 }

@@ -1,0 +1,261 @@
+//! A bill as one page for a browser, with nothing that has to be fetched.
+use crate::lines::{counted, hex, thousands};
+use crate::tally::{End, Operation, Tally};
+use oxterin::Line;
+use std::path::Path;
+
+/// How the page looks, in light and dark, on a wide screen, a narrow one and paper.
+const STYLE: &str = include_str!("page.css");
+
+/// How billing works.
+const RULE: &str = "A tick for which the part is busy is billed to the account whose frame began the operation, whoever polls or \
+                    sends frames while it runs. It is counted from the end of that frame until the operation is finished or a reset \
+                    stops it, and a tick for which the part is idle is billed to nobody.";
+
+/// The page of a bill, with the name of the file that the frames come from.
+pub fn page(name: &str, tally: &Tally) -> String {
+    let name = escaped(&last_of(name));
+    let accounts = tally.accounts();
+    format!(
+        "<!DOCTYPE html>\n\
+         <html lang=\"en\">\n\
+         <head>\n\
+         <meta charset=\"utf-8\">\n\
+         <meta name=\"viewport\" content=\"width=device-width, initial-scale=1\">\n\
+         <meta name=\"color-scheme\" content=\"light dark\">\n\
+         <title>Bill of {name}</title>\n\
+         <style>\n{STYLE}</style>\n\
+         </head>\n\
+         <body>\n\
+         <main>\n\
+         <header>\n\
+         <p class=\"over\">Busy time of a simulated AT25XE011</p>\n\
+         <h1>Bill of <bdi>{name}</bdi></h1>\n\
+         <p class=\"summary\">{summary}</p>\n\
+         {facts}</header>\n\
+         {accounts}{operations}\
+         </main>\n\
+         <footer>\n\
+         <h2>How billing works</h2>\n\
+         <p>{RULE}</p>\n\
+         </footer>\n\
+         </body>\n\
+         </html>\n",
+        summary = summary(tally, &accounts),
+        facts = facts(tally),
+        accounts = accounts_table(tally, &accounts),
+        operations = operations_table(&tally.operations),
+    )
+}
+
+/// The last part of a path.
+fn last_of(name: &str) -> String {
+    Path::new(name)
+        .file_name()
+        .map_or_else(|| name.to_string(), |last| last.to_string_lossy().into_owned())
+}
+
+/// A text that a browser shows as it is. What cannot be shown, such as the end of a line, becomes the sign for that.
+fn escaped(text: &str) -> String {
+    let mut safe = String::new();
+    for c in text.chars() {
+        match c {
+            '&' => safe.push_str("&amp;"),
+            '<' => safe.push_str("&lt;"),
+            '>' => safe.push_str("&gt;"),
+            '"' => safe.push_str("&quot;"),
+            '\'' => safe.push_str("&#39;"),
+            c if c.is_control() => safe.push(char::REPLACEMENT_CHARACTER),
+            c => safe.push(c),
+        }
+    }
+    safe
+}
+
+/// The bill in a sentence.
+fn summary(tally: &Tally, accounts: &[(u8, Line)]) -> String {
+    let all = tally.all();
+    let (begun, billed) = (counted(all.number, "operation"), counted(all.total, "tick"));
+    match accounts {
+        [] => "Nothing is billed to anyone, for no frame began an operation.".to_string(),
+        [(account, _)] => format!("Account {account} began {begun} and is billed {billed}, all for which the part was busy."),
+        _ => {
+            let (account, line) = accounts
+                .iter()
+                .rev()
+                .max_by_key(|(_, line)| line.total)
+                .expect("there are accounts");
+            format!(
+                "{} accounts began {begun} and are billed {billed}, all for which the part was busy; account {account} is billed \
+                 the most, {}.",
+                accounts.len(),
+                thousands(line.total)
+            )
+        }
+    }
+}
+
+/// What was counted.
+fn facts(tally: &Tally) -> String {
+    let all = tally.all();
+    let facts = [
+        ("Frames sent", thousands(tally.frames)),
+        ("Operations begun", thousands(all.number)),
+        ("Ticks passed", thousands(tally.passed)),
+        ("Ticks busy", thousands(all.total)),
+    ];
+    let fact = |(what, number): (&str, String)| format!("<div><dt>{what}</dt><dd>{number}</dd></div>\n");
+    format!("<dl class=\"facts\">\n{}</dl>\n", facts.map(fact).concat())
+}
+
+/// A row for each account with its bar, and one for all; nothing if there is no account.
+fn accounts_table(tally: &Tally, accounts: &[(u8, Line)]) -> String {
+    let all = tally.all();
+    let Some(largest) = accounts.iter().map(|(_, line)| line.total).max() else {
+        return String::new();
+    };
+    let rows: String = accounts
+        .iter()
+        .map(|(account, line)| account_row(*account, *line, largest, all.total))
+        .collect();
+    format!(
+        "<section>\n\
+         <h2>Accounts</h2>\n\
+         <table class=\"accounts\">\n\
+         <thead>\n\
+         <tr><th>Account</th><th>Share of the busy ticks</th><th class=\"number\">Ticks billed</th>\
+         <th class=\"number\">Most for one operation</th><th class=\"number\">Operations</th></tr>\n\
+         </thead>\n\
+         <tbody>\n{rows}</tbody>\n\
+         <tfoot>\n\
+         <tr><th scope=\"row\">All</th><td class=\"share\"></td><td class=\"number total\">{total}</td>\
+         <td class=\"number\" data-head=\"Most for one operation\">{most}</td><td class=\"number\" data-head=\"Operations\">{number}</td></tr>\n\
+         </tfoot>\n\
+         </table>\n\
+         </section>\n",
+        total = thousands(all.total),
+        most = thousands(all.most),
+        number = thousands(all.number),
+    )
+}
+
+/// The row of an account, whose bar is in proportion to the largest total.
+fn account_row(account: u8, line: Line, largest: u64, all: u128) -> String {
+    format!(
+        "<tr><th scope=\"row\">{account}</th><td class=\"share\"><div>{bar}<span>{share}</span></div></td>\
+         <td class=\"number total\">{total}</td><td class=\"number\" data-head=\"Most for one operation\">{most}</td>\
+         <td class=\"number\" data-head=\"Operations\">{number}</td></tr>\n",
+        bar = bar(line.total, largest),
+        share = share(line.total, all),
+        total = thousands(line.total),
+        most = thousands(line.most),
+        number = thousands(line.number),
+    )
+}
+
+/// A bar as long as this part of the whole; none for nothing.
+fn bar(part: u64, whole: u64) -> String {
+    if part == 0 {
+        return String::new();
+    }
+    let hundredths = 10_000 * u128::from(part) / u128::from(whole);
+    format!("<i style=\"width:{}.{:02}%\"></i>", hundredths / 100, hundredths % 100)
+}
+
+/// How much of all ticks this part is, to the tenth of a percent.
+fn share(part: u64, all: u128) -> String {
+    let tenths = (2_000 * u128::from(part) + all) / (2 * all.max(1));
+    match tenths {
+        0 if part > 0 => "under 0.1 %".to_string(),
+        _ => format!("{}.{} %", tenths / 10, tenths % 10),
+    }
+}
+
+/// A row for each operation; nothing if there is none.
+fn operations_table(operations: &[Operation]) -> String {
+    if operations.is_empty() {
+        return String::new();
+    }
+    let rows: String = operations.iter().map(operation_row).collect();
+    format!(
+        "<section>\n\
+         <h2>Operations</h2>\n\
+         <p class=\"note\">Each began at the end of the frame that stands beside it. Ticks are counted from the start.</p>\n\
+         <table class=\"operations\">\n\
+         <thead>\n\
+         <tr><th class=\"number\">Began at tick</th><th class=\"number\">Line</th><th>Frame</th><th class=\"number\">Account</th>\
+         <th class=\"number\">Ticks billed</th><th>Frames sent while it ran</th></tr>\n\
+         </thead>\n\
+         <tbody>\n{rows}</tbody>\n\
+         </table>\n\
+         </section>\n"
+    )
+}
+
+/// The row of an operation.
+fn operation_row(operation: &Operation) -> String {
+    format!(
+        "<tr><td class=\"number\" data-head=\"Began at tick\">{tick}</td><td class=\"number\" data-head=\"Line\">{line}</td>\
+         <td class=\"frame\">{name} <code>{bytes}</code></td><td class=\"number account\">{account}</td>\
+         <td class=\"number billed\" data-head=\"Billed\">{billed} <span class=\"of\">of {duration}</span> <span class=\"end {class}\">{end}</span></td>\
+         <td class=\"meanwhile\" data-head=\"While it ran\">{meanwhile}</td></tr>\n",
+        tick = thousands(operation.begun),
+        line = operation.line,
+        name = operation.name(),
+        bytes = bytes(operation),
+        account = operation.account,
+        billed = thousands(operation.billed),
+        duration = thousands(operation.duration),
+        class = match operation.end {
+            End::Finished => "finished",
+            End::Running => "running",
+            End::Stopped => "stopped",
+        },
+        end = operation.end.word(),
+        meanwhile = meanwhile(operation),
+    )
+}
+
+/// The bytes of an operation's frame, the first ones if there are many.
+fn bytes(operation: &Operation) -> String {
+    let first = hex(&operation.first);
+    match operation.length > operation.first.len() {
+        true => format!("{first} …\u{a0}({}\u{a0}bytes)", thousands(operation.length as u64)),
+        false => first,
+    }
+}
+
+/// Who sent frames while an operation ran, and how many.
+fn meanwhile(operation: &Operation) -> String {
+    let each = operation.meanwhile.iter();
+    let words: Vec<String> = each
+        .map(|(account, frames)| format!("<span>account {account}: {}</span>", frames.words()))
+        .collect();
+    match words.is_empty() {
+        true => "<span class=\"none\">none</span>".to_string(),
+        false => words.join(" "),
+    }
+}
+
+#[cfg(test)]
+mod tests {
+    use super::*;
+
+    #[test]
+    fn what_a_file_is_called_is_shown_and_never_obeyed() {
+        assert_eq!(escaped("a<b>&\"c\"'d'"), "a&lt;b&gt;&amp;&quot;c&quot;&#39;d&#39;");
+        assert_eq!(escaped("über\n\u{1b}[1m"), "über\u{fffd}\u{fffd}[1m");
+        assert_eq!(last_of("a/b/c.frames"), "c.frames");
+        assert_eq!(last_of("standard input"), "standard input");
+        assert_eq!(last_of(".."), "..");
+    }
+
+    #[test]
+    fn bars_and_shares_are_in_proportion() {
+        assert_eq!(bar(1, 3), "<i style=\"width:33.33%\"></i>");
+        assert_eq!(bar(u64::MAX, u64::MAX), "<i style=\"width:100.00%\"></i>");
+        assert_eq!(bar(0, 0), "");
+        assert_eq!([share(1, 3), share(2, 3), share(3, 3)], ["33.3 %", "66.7 %", "100.0 %"]);
+        assert_eq!([share(1, 10_000), share(0, 10_000), share(0, 0)], ["under 0.1 %", "0.0 %", "0.0 %"]);
+    }
+}

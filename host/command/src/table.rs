@@ -1,0 +1,124 @@
+//! A bill as a table for a terminal, and as comma-separated values.
+use crate::lines::{counted, thousands};
+use crate::tally::{All, End, Tally};
+use oxterin::Line;
+
+/// The columns before the bar.
+const COLUMNS: [&str; 4] = ["account", "total ticks", "most for one operation", "operations"];
+/// What stands between two columns.
+const GAP: &str = "   ";
+/// How many marks the longest bar has.
+const BAR: u128 = 30;
+
+/// A row of the table: its cells, and its bar.
+struct Row {
+    cells: [String; COLUMNS.len()],
+    bar: String,
+}
+
+/// The table with a row for each account and one for all, what is still running, and how many frames and ticks there were.
+pub fn table(tally: &Tally) -> String {
+    let accounts = tally.accounts();
+    let all = tally.all();
+    let bill = match accounts.is_empty() {
+        true => "Nothing was billed to anyone: no frame began an operation.\n".to_string(),
+        false => rows(&accounts, all),
+    };
+    format!("{bill}{}\n{}", still_running(tally), counts(tally, all))
+}
+
+/// The rows under their heads.
+fn rows(accounts: &[(u8, Line)], all: All) -> String {
+    let largest = accounts.iter().map(|(_, line)| line.total).max().unwrap_or(0);
+    let head = Row {
+        cells: COLUMNS.map(String::from),
+        bar: String::new(),
+    };
+    let each = accounts.iter().map(|(account, line)| Row {
+        cells: [
+            account.to_string(),
+            thousands(line.total),
+            thousands(line.most),
+            thousands(line.number),
+        ],
+        bar: bar(line.total, largest),
+    });
+    let last = Row {
+        cells: ["all".into(), thousands(all.total), thousands(all.most), thousands(all.number)],
+        bar: String::new(),
+    };
+    aligned(&[head].into_iter().chain(each).chain([last]).collect::<Vec<_>>())
+}
+
+/// Rows below each other, each column as wide as its widest cell, numbers to the right.
+fn aligned(rows: &[Row]) -> String {
+    let width = |column: usize| rows.iter().map(|row| row.cells[column].len()).max().unwrap_or(0);
+    let widths: Vec<usize> = (0..COLUMNS.len()).map(width).collect();
+    let line = |row: &Row| {
+        let cells = row.cells.iter().zip(&widths).map(|(cell, width)| format!("{cell:>width$}{GAP}"));
+        let line = cells.chain([row.bar.clone()]).collect::<String>();
+        line.trim_end().to_string() + "\n"
+    };
+    rows.iter().map(line).collect()
+}
+
+/// Marks for a total, in proportion to the largest; at least one unless it is 0.
+fn bar(total: u64, largest: u64) -> String {
+    if total == 0 {
+        return String::new();
+    }
+    let (total, largest) = (u128::from(total), u128::from(largest));
+    let marks = (2 * BAR * total + largest) / (2 * largest);
+    "#".repeat(marks.max(1) as usize)
+}
+
+/// A sentence on what is still running, if anything is.
+fn still_running(tally: &Tally) -> String {
+    match tally.operations.last() {
+        Some(last) if last.end == End::Running => format!(
+            "\nStill running: account {}'s {} of line {}, billed so far for {} of its {}.\n",
+            last.account,
+            last.name(),
+            last.line,
+            thousands(last.billed),
+            counted(last.duration, "tick")
+        ),
+        _ => String::new(),
+    }
+}
+
+/// How many frames were sent, how many ticks passed, and for how many of them the part was busy.
+fn counts(tally: &Tally, all: All) -> String {
+    let counts = [
+        ("frames sent", thousands(tally.frames)),
+        ("ticks passed", thousands(tally.passed)),
+        ("of them busy", thousands(all.total)),
+    ];
+    let width = counts.iter().map(|(_, number)| number.len()).max().unwrap_or(0);
+    let line = |(what, number): &(&str, String)| format!("{what:<12}{GAP}{number:>width$}\n");
+    counts.iter().map(line).collect()
+}
+
+/// The bill as comma-separated values: a line of heads, then one for each account, in numbers without commas of their own.
+pub fn csv(tally: &Tally) -> String {
+    let line = |(account, line): (u8, Line)| format!("{account},{},{},{}\n", line.total, line.most, line.number);
+    let lines: String = tally.accounts().into_iter().map(line).collect();
+    format!("account,total,most,operations\n{lines}")
+}
+
+#[cfg(test)]
+mod tests {
+    use super::*;
+
+    #[test]
+    fn bars_are_in_proportion() {
+        let marks = |total, largest| bar(total, largest).len();
+        assert_eq!(marks(0, 0), 0);
+        assert_eq!(marks(0, 5), 0);
+        assert_eq!(marks(5, 5), 30);
+        assert_eq!(marks(1, 2), 15);
+        assert_eq!(marks(1, 3_000_000), 1);
+        assert_eq!(marks(2_999_999, 3_000_000), 30);
+        assert_eq!(marks(u64::MAX / 3, u64::MAX), 10);
+    }
+}
