@@ -1,8 +1,10 @@
 -- A call through the ledger, by whether the ledger is shut to it. Assumes nothing.
 use Prim.Native.Nat.{ℕ, _<_, _≤_}
-use mathlib.Core.Bool.{Bool, true, false, true≢false, not, _||_, and-false}
+use mathlib.Core.Bool.{Bool, true, false, true≢false, cond, not, _||_, and-false}
 use mathlib.Core.Path.{_≡_, refl, sym, ap, _∙_}
+use mathlib.Core.Logic.{_≢_}
 use native.Mathlib.Decide.{ℕ-discrete}
+use native.Mathlib.Omega.{arith}
 use borrow.Author.Tests.{ltb-true, ne-eqb}
 use lib.Dec.{ltb, eqb}
 use Rattle.sheet.proofs.Records.{sound-then}
@@ -11,9 +13,10 @@ use Rattle.lent.proofs.Lengths.{accepted}
 use Rattle.part.specs.declared.frame.Answer.{Answer}
 use Rattle.part.specs.Frame as part
 use Rattle.part.specs.Frame.{Call, Lent, Reply, Result, lengthsOf, numberFor, refused, replyOf}
+use Rattle.part.proofs.Answers as answers
 use Rattle.part.proofs.Answers.{refusal-is}
 use Rattle.accounts.specs.Ledger.{Ledger, anyAbove, shut, booked}
-use Rattle.ledger.specs.Frame.{afterOthers, replied, frame, Meets}
+use Rattle.ledger.specs.Frame.{shutOut, afterOthers, replied, frame, Meets}
 
 -- what is known of a ledger that is not shut
 pub open-to : (account : ℕ) (l : Ledger) → shut account l ≡ false
@@ -51,3 +54,24 @@ unfolding frame replied part.frame
 open-frame c m n a account l kept e f p =
     rw (e, and-false (eqb (numberFor c (lengthsOf c m)) 0), p)
     (ap (λ (r : Result). record { reply = r .reply; lent = r .lent; ledger = booked (c .device .busy) (c .signals) (r .reply) account l }) f)
+
+-- a refused call leaves the record, every lent byte and the ledger
+pub refused-leaves : (c : Call) (m : Lent) (account : ℕ) (l : Ledger) → frame c m account l .reply .refusal ≢ 0
+    → (frame c m account l .reply .device ≡ c .device) × (frame c m account l .lent ≡ m) × (frame c m account l .ledger ≡ l)
+unfolding frame replied booked part.frame
+refused-leaves c m account l n = by (shutOut c (lengthsOf c m) account l) n
+  where
+    by : (s : Bool) → cond s (refused 9 (c .device)) (part.replied c (lengthsOf c m)) .refusal ≢ 0
+        → let r = cond s (refused 9 (c .device)) (part.replied c (lengthsOf c m)) in
+        (r .device ≡ c .device) × (cond s m (part.frame c m .lent) ≡ m) × (booked (c .device .busy) (c .signals) r account l ≡ l)
+    by true n = (refl, refl, refl)
+    by false n = let kept = answers.refused-leaves c m n in (kept .0, kept .1, rw (ne-eqb (part.replied c (lengthsOf c m) .refusal) 0 n))
+
+-- and none is refused with 255
+pub not-255 : (c : Call) (m : Lent) (account : ℕ) (l : Ledger) → frame c m account l .reply .refusal ≢ 255
+unfolding frame replied
+not-255 c m account l = by (shutOut c (lengthsOf c m) account l)
+  where
+    by : (s : Bool) → cond s (refused 9 (c .device)) (part.replied c (lengthsOf c m)) .refusal ≢ 255
+    by true = λ e. omega arith
+    by false = answers.not-255 c (lengthsOf c m)

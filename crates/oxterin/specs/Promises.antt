@@ -9,6 +9,9 @@ use Rattle.part.specs.Frame.{Lent, frame}
 use Rattle.packing.specs.Packing.{packed, isRecord, deviceOf, isSettings, settingsOf}
 use Rattle.framewords.specs.Words.{Handed, isCall, callOf, left, told, faced}
 use Rattle.hexwords.specs.Words.{textOut, textIn}
+use Rattle.accounts.specs.declared.Running.{Running}
+use Rattle.ledgerwords.specs.Words.{Ticket, isRunning, runningOf, runningWords, isCallFor, unread, reportNumber, reportWords}
+use Rattle.ledgerwords.specs.Words as ledger
 
 pub record Promises : Type 0 where
   -- words that stand for a call are answered with what the part's frame gives, and nothing else
@@ -25,3 +28,14 @@ pub record Promises : Type 0 where
   -- a text that is not written or not read, for whatever number, leaves the lent memory as it was
   pub text-kept : (array text word : List ℕ) → textOut array text word .number ≢ 0 → textOut array text word .memory ≡ text
   pub array-kept : (text array word : List ℕ) → textIn text array word .number ≢ 0 → textIn text array word .memory ≡ array
+  -- a frame through the ledger is answered with 255 exactly if its words stand for nothing, and then everything is as it was
+  pub bill-unread : (h : Handed) (k : Ticket) (m : Lent)
+      → (isCallFor h k ≡ false → ledger.faced h k m ≡ unread h k m) × (ledger.faced h k m .frame .number ≡ 255 → isCallFor h k ≡ false)
+  -- with a number other than 0 it changes neither the record's words nor a lent byte nor a word of the ledger
+  pub bill-kept : (h : Handed) (k : Ticket) (m : Lent) → ledger.faced h k m .frame .number ≢ 0
+      → (ledger.faced h k m .frame .device ≡ h .device) × (ledger.faced h k m .frame .lent ≡ m) × (ledger.faced h k m .running ≡ k .running) × (ledger.faced h k m .totals ≡ k .totals)
+      × (ledger.faced h k m .most ≡ k .most) × (ledger.faced h k m .numbers ≡ k .numbers)
+  -- a report that is refused writes nothing
+  pub report-kept : (account : ℕ) (totals most numbers line : List ℕ) → reportNumber account line ≢ 0 → reportWords account totals most numbers line ≡ line
+  -- the running operation that comes back as words is the one that goes in with them
+  pub same-running : (r : Running) → (isRunning (runningWords r) ≡ true) × (runningOf (runningWords r) ≡ r)

@@ -4,6 +4,7 @@ use Prim.Native.String.{String}
 use mathlib.Core.Bool.{Bool, true, false, cond}
 use mathlib.Core.Logic.{_≢_}
 use mathlib.Core.Path.{_≡_, refl, sym, ap, _∙_}
+use native.Mathlib.Omega.{arith}
 use borrow.Author.Tests.{eqb-true, ne-eqb}
 use lib.Dec.{eqb}
 use lib.Text.{eqt}
@@ -92,3 +93,24 @@ some-answer c m = ap (λ (r : Reply). record { reply = r; lent = frame c m .lent
         ≡ cond b (answered (judgedOf c)) (refused number (c .device))
     by true = refl
     by false = ap (λ (n : ℕ). refused n (c .device)) (numbered c (lengthsOf c m))
+
+-- a refused call leaves the record and every lent byte
+pub refused-leaves : (c : Call) (m : Lent) → frame c m .reply .refusal ≢ 0 → (frame c m .reply .device ≡ c .device) × (frame c m .lent ≡ m)
+unfolding frame replied
+refused-leaves c m n = let e = not-accepted c (lengthsOf c m) n in (rw e, rw e)
+
+-- and no refusal has the number 255
+small : (r : Refusal) → numberOf r ≢ 255
+small Refusal.Accepted = λ e. omega arith
+small Refusal.ArrayLength = λ e. omega arith
+small Refusal.RegisterLength = λ e. omega arith
+small Refusal.InputLength = λ e. omega arith
+small Refusal.BitCount = λ e. omega arith
+small Refusal.OutputLength = λ e. omega arith
+small Refusal.Record = λ e. omega arith
+small Refusal.Duration = λ e. omega arith
+small Refusal.Pace = λ e. omega arith
+small Refusal.Account = λ e. omega arith
+
+pub not-255 : (c : Call) (lengths : Lengths) → replied c lengths .refusal ≢ 255
+not-255 c lengths e = small (refusalAt (numberFor c lengths)) (numbered c lengths ∙ (sym (refusal-is c lengths) ∙ e))

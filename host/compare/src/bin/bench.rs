@@ -110,6 +110,7 @@ fn billed() -> Vec<Billed> {
     vec![
         poll("status read of 2 positions, busy", 2),
         poll("status read of 64 positions, busy", 64),
+        poll("status read of 128 positions, busy", 128),
         poll("status read of 8,192 positions, busy", 8_192),
         Billed {
             name: "write enable",

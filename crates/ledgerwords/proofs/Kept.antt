@@ -1,0 +1,76 @@
+-- What is not accepted changes nothing, word by word. Assumes nothing.
+use Prim.Native.Nat.{ℕ}
+use mathlib.Core.Bool.{Bool, true, false, cond, _&&_}
+use mathlib.Core.List.{List, [], _∷_}
+use mathlib.Core.Logic.{_≢_}
+use mathlib.Core.Path.{_≡_, refl, sym, ap, _∙_}
+use native.Mathlib.Omega.{arith}
+use lib.Dec.{eqb}
+use lib.ListN.{length, getD}
+use Rattle.part.specs.Frame.{Lent}
+use Rattle.accounts.specs.declared.Running.{Running}
+use Rattle.accounts.specs.Ledger.{Ledger, isAccount}
+use Rattle.ledger.specs.Frame.{frame}
+use Rattle.ledger.proofs.Frames.{refused-leaves, not-255}
+use Rattle.packing.specs.Packing.{packed, writtenIf}
+use Rattle.packing.proofs.Records.{same-words}
+use Rattle.framewords.specs.Words.{Handed, callOf}
+use Rattle.framewords.proofs.Words.{record-read}
+use Rattle.ledgerwords.specs.Words.{Ticket, LeftFor, isRunning, runningOf, runningWords, ledgerOf, isCallFor, told, unread, faced, reportNumber, reportWords}
+use Rattle.ledgerwords.proofs.Words.{stands}
+
+read : (h : Handed) (k : Ticket) (m : Lent) → isCallFor h k ≡ true → faced h k m ≡ told (frame (callOf h) m (k .account) (ledgerOf k))
+unfolding faced
+read h k m e = rw e
+
+passed-over : (h : Handed) (k : Ticket) (m : Lent) → isCallFor h k ≡ false → faced h k m ≡ unread h k m
+unfolding faced
+passed-over h k m e = rw e
+
+pub bill-unread : (h : Handed) (k : Ticket) (m : Lent)
+    → (isCallFor h k ≡ false → faced h k m ≡ unread h k m) × (faced h k m .frame .number ≡ 255 → isCallFor h k ≡ false)
+bill-unread h k m = (passed-over h k m, λ e. by (isCallFor h k) refl e)
+  where
+    by : (b : Bool) → isCallFor h k ≡ b → faced h k m .frame .number ≡ 255 → isCallFor h k ≡ false
+    by true r e = absurd (not-255 (callOf h) m (k .account) (ledgerOf k) (sym (ap (λ (l : LeftFor). l .frame .number) (read h k m r)) ∙ e))
+    by false r e = r
+
+-- two words are those of the running operation that they stand for
+two-words : (ws : List ℕ) → length ws ≡ 2 → runningWords (runningOf ws) ≡ ws
+two-words [] e = absurd (omega arith)
+two-words (a ∷ []) e = absurd (omega arith)
+two-words (a ∷ b ∷ []) e = refl
+two-words (a ∷ b ∷ c ∷ ws) e = absurd (omega arith)
+
+pub bill-kept : (h : Handed) (k : Ticket) (m : Lent) → faced h k m .frame .number ≢ 0
+    → (faced h k m .frame .device ≡ h .device) × (faced h k m .frame .lent ≡ m) × (faced h k m .running ≡ k .running) × (faced h k m .totals ≡ k .totals)
+    × (faced h k m .most ≡ k .most) × (faced h k m .numbers ≡ k .numbers)
+bill-kept h k m n = by (isCallFor h k) refl
+  where
+    by : (b : Bool) → isCallFor h k ≡ b
+        → (faced h k m .frame .device ≡ h .device) × (faced h k m .frame .lent ≡ m) × (faced h k m .running ≡ k .running) × (faced h k m .totals ≡ k .totals)
+        × (faced h k m .most ≡ k .most) × (faced h k m .numbers ≡ k .numbers)
+    by true r =
+        let right = stands h k r in
+        let kept = refused-leaves (callOf h) m (k .account) (ledgerOf k) (λ z. n (ap (λ (l : LeftFor). l .frame .number) (read h k m r) ∙ z)) in
+        rw (read h k m r) (
+          ap packed (kept .0) ∙ same-words (h .device) (record-read h (right .0)),
+          kept .1,
+          ap (λ (l : Ledger). runningWords (l .running)) (kept .2) ∙ two-words (k .running) (right .1),
+          ap (λ (l : Ledger). l .totals) (kept .2),
+          ap (λ (l : Ledger). l .most) (kept .2),
+          ap (λ (l : Ledger). l .numbers) (kept .2),
+        )
+    by false r = rw (passed-over h k m r) (refl, refl, refl, refl, refl, refl)
+
+pub report-kept : (account : ℕ) (totals most numbers line : List ℕ) → reportNumber account line ≢ 0 → reportWords account totals most numbers line ≡ line
+report-kept account totals most numbers line n = by (isAccount account) (eqb (length line) 3) n
+  where
+    by : (b r : Bool) → cond {A = ℕ} r (cond b 0 9) 255 ≢ 0
+        → writtenIf (b && r) (getD totals account 0 ∷ getD most account 0 ∷ getD numbers account 0 ∷ []) line ≡ line
+    by true true n = absurd (n refl)
+    by true false n = refl
+    by false r n = refl
+
+pub same-running : (r : Running) → (isRunning (runningWords r) ≡ true) × (runningOf (runningWords r) ≡ r)
+same-running r = (refl, refl)
