@@ -1,6 +1,6 @@
 -- An entry above the limit, among those of the first accounts. Assumes nothing.
 use Prim.Native.Nat.{ℕ, zero, suc, _<_, _≤_}
-use mathlib.Core.Bool.{Bool, true, false, true≢false, _||_, or-true}
+use mathlib.Core.Bool.{true, false, true≢false, _||_, or-true}
 use mathlib.Core.List.{List}
 use mathlib.Core.Path.{_≡_, sym, subst, _∙_}
 use native.Mathlib.Decide.{ℕ-discrete, decLe}

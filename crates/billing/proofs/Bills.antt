@@ -7,15 +7,15 @@ use mathlib.Core.List.{List, [], _∷_}
 use mathlib.Core.Path.{_≡_, refl, sym, ap, subst, _∙_}
 use native.Mathlib.Decide.{ℕ-discrete}
 use native.Mathlib.Omega.{arith}
-use borrow.Author.Tests.{lt-ltb, ltb-true, eq-eqb, ne-eqb, eqb-true}
-use lib.Dec.{ltb, eqb}
+use borrow.Author.Tests.{lt-ltb, eq-eqb, ne-eqb}
+use lib.Dec.{eqb}
 use lib.ListN.{length, getD, replicate, length-replicate, getD-replicate}
 use Rattle.sheet.specs.declared.device.Device.{Device}
 use Rattle.part.specs.Busy.{durationOf}
 use Rattle.accounts.specs.declared.Running.{Running}
 use Rattle.accounts.specs.Ledger.{Ledger, isAccount, runs, nobody, empty, at, paid}
 use Rattle.billing.specs.Entries.{Entry, Done, replyTo, ledgerBy, doneOf, calls, lastLedger}
-use Rattle.billing.specs.Operations.{accepted, begins, stops, ticks, passed, operations, bills, sum, largest, busyTicks}
+use Rattle.billing.specs.Operations.{stops, ticks, passed, operations, bills, sum, largest, busyTicks}
 use Rattle.billing.proofs.Tables.{length-at, entry-at, sum-at}
 use Rattle.billing.proofs.Steps.{Stepped, billed, stepped}
 

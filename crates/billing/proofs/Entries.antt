@@ -1,6 +1,5 @@
 -- One call of a series through the ledger, by whether it is refused; and two lists joined. Assumes nothing.
-use Prim.Native.Nat.{ℕ, _<_}
-use mathlib.Core.Bool.{Bool, true, false, true≢false, false≢true, cond, _&&_}
+use mathlib.Core.Bool.{Bool, true, false, false≢true, cond, _&&_}
 use mathlib.Core.List.{List, [], _∷_, _++_}
 use mathlib.Core.Logic.{_≢_}
 use mathlib.Core.Path.{_≡_, refl, sym, ap, _∙_}
@@ -10,7 +9,7 @@ use lib.Dec.{eqb}
 use Rattle.sheet.specs.declared.device.Device.{Device}
 use Rattle.lent.specs.declared.refusal.Lengths.{Lengths}
 use Rattle.part.specs.Frame as part
-use Rattle.part.specs.Frame.{Call, Reply, numberFor, refused}
+use Rattle.part.specs.Frame.{Call, numberFor, refused}
 use Rattle.part.proofs.Answers.{refusal-is}
 use Rattle.series.specs.Turns.{callOf, lengthsOf}
 use Rattle.series.proofs.Turns.{refused-reply}

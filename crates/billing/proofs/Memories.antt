@@ -1,6 +1,5 @@
 -- A series through the ledger on memories: what the ledger lets through is a series of the part, and the rest changes nothing.
 -- Assumes nothing.
-use Prim.Native.Nat.{ℕ}
 use mathlib.Core.Bool.{Bool, true, false, cond}
 use mathlib.Core.List.{List, [], _∷_, map}
 use mathlib.Core.Path.{_≡_, refl, sym, ap, subst, _∙_}
@@ -13,12 +12,12 @@ use Rattle.part.specs.Frame.{Call, Lent, Reply, refused, refusing, replyOf}
 use Rattle.part.proofs.Answers.{answerOf, some-answer}
 use Rattle.series.specs.Turns.{Turn, callOf, lengthsOf}
 use Rattle.series.specs.Series as series
-use Rattle.series.specs.Series.{Step, State, lentTo}
+use Rattle.series.specs.Series.{Step, lentTo}
 use Rattle.series.proofs.Lending.{returned-same}
 use Rattle.series.proofs.Steps.{same-lengths}
 use Rattle.accounts.specs.Ledger.{Ledger, booked}
 use Rattle.ledger.specs.Frame.{Result, shutOut, replied, frame}
-use Rattle.billing.specs.Entries.{Entry, Done, entry, replyTo, ledgerBy, calls, lastRecord, lastLedger, turnsThrough}
+use Rattle.billing.specs.Entries.{Entry, entry, replyTo, ledgerBy, calls, lastRecord, lastLedger, turnsThrough}
 use Rattle.billing.specs.Series.{Booking, Desk, Made, entriesOf, resultOf, left, results, end, stepsThrough, madeOf, Ran}
 use Rattle.billing.specs.Promises.{answersOf}
 

@@ -1,11 +1,11 @@
 -- A call that begins nothing may be another account's, and a refused one may be left out. Assumes nothing.
 use Prim.Native.Nat.{ℕ, _<_}
-use mathlib.Core.Bool.{Bool, true, false, true≢false, cond, _||_}
+use mathlib.Core.Bool.{Bool, true, false}
 use mathlib.Core.List.{List, _∷_, _++_}
 use mathlib.Core.Logic.{_≢_}
 use mathlib.Core.Path.{_≡_, refl, sym, ap, subst, _∙_}
 use borrow.Author.Tests.{lt-ltb}
-use lib.Dec.{T, eqb}
+use lib.Dec.{T}
 use lib.Text.{eqt, eqt→eq}
 use Rattle.sheet.specs.declared.device.Device.{Device}
 use Rattle.part.specs.Frame.{Reply}

@@ -3,7 +3,6 @@ use Prim.Native.Nat.{ℕ, _<_}
 use mathlib.Core.List.{List, map}
 use mathlib.Core.Path.{_≡_, refl, sym, ap, _∙_}
 use lib.ListN.{length, getD}
-use Rattle.memory.specs.Operations.{Operation}
 use Rattle.series.specs.Turns as turns
 use Rattle.series.specs.Turns.{Turn}
 use Rattle.series.specs.Series as series

@@ -1,7 +1,7 @@
 -- What the ledger promises of any series of calls, refused calls and resets among them: whose ticks are whose. To read it: es are entries,
 -- d is a record, l a ledger, bs are bookings, t and u are what stands before or after them. Assumes nothing.
 use Prim.Native.Nat.{ℕ, _+_, _<_, min}
-use mathlib.Core.List.{List, [], _∷_, _++_, map}
+use mathlib.Core.List.{List, _∷_, _++_, map}
 use mathlib.Core.Logic.{_≢_}
 use mathlib.Core.Path.{_≡_}
 use lib.ListN.{length, getD}

@@ -7,7 +7,7 @@ use lib.ListN.{length, replicate, set}
 use Rattle.sheet.specs.declared.device.Device.{Device}
 use Rattle.sheet.specs.declared.device.Mode.the-variants.{Awake}
 use Rattle.settings.specs.Settings.{typical}
-use Rattle.accounts.specs.Ledger.{Ledger, ledger, runs, nobody, empty}
+use Rattle.accounts.specs.Ledger.{ledger, runs, nobody, empty}
 use Rattle.billing.specs.Entries.{Entry, entry, lastLedger}
 
 -- a record with so many busy ticks left, all else as a fresh one has it

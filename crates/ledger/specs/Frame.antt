@@ -5,8 +5,7 @@ use mathlib.Core.Path.{_≡_}
 use lib.Dec.{eqb}
 use Rattle.lent.specs.declared.refusal.Lengths.{Lengths}
 use Rattle.part.specs.Frame as part
-use Rattle.part.specs.Frame.{Call, Lent, Reply, lengthsOf, numberFor, refused, replyOf}
-use Rattle.ledger.specs.declared.Booked.{Booked}
+use Rattle.part.specs.Frame.{Call, Lent, Reply, lengthsOf, numberFor, refused}
 use Rattle.accounts.specs.Ledger.{Ledger, shut, booked}
 
 -- refusal 9 is given, after all others

@@ -5,10 +5,9 @@ use mathlib.Core.Bool.{Bool, cond, _&&_}
 use mathlib.Core.List.{List, [], _∷_}
 use lib.Dec.{eqb}
 use lib.ListN.{length, getD}
-use Rattle.lent.specs.Refusal.{numberOf}
 use Rattle.part.specs.Frame.{Lent}
 use Rattle.accounts.specs.declared.Running.{Running}
-use Rattle.accounts.specs.Ledger.{Ledger, ledger, runs, isAccount, reported}
+use Rattle.accounts.specs.Ledger.{Ledger, ledger, runs, isAccount}
 use Rattle.ledger.specs.Frame.{Result, frame}
 use Rattle.packing.specs.Packing.{writtenIf}
 use Rattle.framewords.specs.Words as plain

@@ -28,9 +28,9 @@ use Rattle.sheet.proofs.Leaves.{Heard, each-answer, full-duration}
 use Rattle.lent.specs.declared.refusal.Lengths.{Lengths}
 use Rattle.lent.specs.Refusal.{bytesFor}
 use Rattle.part.specs.Words.{wordOf}
-use Rattle.part.specs.Frame.{Call, Reply, numberFor, timed, risen, factsOf, judgedOf, answered, refused, replied}
-use Rattle.part.specs.Busy.{isReset, resets, durationOf, busyAfter}
-use Rattle.part.proofs.Answers.{word-tells, refusal-is}
+use Rattle.part.specs.Frame.{Call, numberFor, risen, factsOf, judgedOf, answered, refused, replied}
+use Rattle.part.specs.Busy.{isReset, resets, busyAfter}
+use Rattle.part.proofs.Answers.{refusal-is}
 
 -- an operation is begun by a part that was idle at the first bit; whatever else is answered leaves the ticks at the rise, but a reset none
 abbrev Kept : Device → Facts → Judged → Type 0

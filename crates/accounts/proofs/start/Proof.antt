@@ -3,7 +3,6 @@ use Prim.Native.Nat.{_≤_}
 use mathlib.Core.Path.{refl}
 use borrow.Author.Needs.{needs}
 use native.Mathlib.Numerals.{add-one}
-use native.Mathlib.Omega.{arith}
 use borrow.Author.Tests.{lt-ltb}
 use lib.ListN.{getD}
 use Rattle.accounts.specs.Ledger.{limit}

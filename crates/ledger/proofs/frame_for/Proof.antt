@@ -1,6 +1,5 @@
 -- `ledger::frame_for` meets its contract. Assumes nothing.
-use Prim.Native.Nat.{_≤_}
-use mathlib.Core.Path.{_≡_, sym, _∙_}
+use mathlib.Core.Path.{sym, _∙_}
 use borrow.Author.Needs.{needs}
 use Rattle.part.specs.Frame.{Call, Lent, call, lent, numberFor}
 use Rattle.accounts.specs.Ledger.{Ledger, ledger}
