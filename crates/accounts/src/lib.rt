@@ -48,7 +48,7 @@ pub fn nobody() -> Running
     }
 }
 
-// All bits that the words of two tables have among them. Each table has a sum of its own, so that neither waits for the other.
+// All bits that the words of two tables have among them, each table's gathered in a word of its own: neither waits for the other.
 fn gathered<'a>(table: &'a [u64; 256], also: &'a [u64; 256]) -> u64
     ensures { λ r. ⌜ (r ≤ spec.limit → (spec.anyAbove (now (table .entry)) ≡ false) × (spec.anyAbove (now (also .entry)) ≡ false)) ⌝ }
 {

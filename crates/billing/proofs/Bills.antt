@@ -11,7 +11,7 @@ use borrow.Author.Tests.{lt-ltb, eq-eqb, ne-eqb}
 use lib.Dec.{eqb}
 use lib.ListN.{length, getD, replicate, length-replicate, getD-replicate}
 use Rattle.sheet.specs.declared.device.Device.{Device}
-use Rattle.part.specs.Busy.{durationOf}
+use Rattle.part.specs.Busy.{lastsFor}
 use Rattle.accounts.specs.declared.Running.{Running}
 use Rattle.accounts.specs.Ledger.{Ledger, isAccount, runs, nobody, empty, at, paid}
 use Rattle.billing.specs.Entries.{Entry, Done, replyTo, ledgerBy, doneOf, calls, lastLedger}
@@ -46,9 +46,9 @@ abbrev rest : ℕ → Running → ℕ → ℕ → ℕ
 rest account r busy p = cond (eqb (r .account) account) (min busy p) 0
 
 -- where no tick is left it does not matter who runs
-still-running : (account : ℕ) (r : Running) (off busy p : ℕ) → account < 256
+still-running : (account : ℕ) (r : Running) (off busy p : ℕ)
     → rest account (cond (eqb busy 0) nobody (paid r off)) busy p ≡ rest account r busy p
-still-running account r off busy p low = by (ℕ-discrete busy 0)
+still-running account r off busy p = by (ℕ-discrete busy 0)
   where
     nothing-left : (b c : Bool) → cond b (min 0 p) 0 ≡ cond c (min 0 p) 0
     nothing-left true true = refl
@@ -94,10 +94,10 @@ total-step account c cs l l′ busy busy′ low w (Stepped.refusedly acc beg kep
 total-step account c cs l l′ busy busy′ low w (Stepped.beginning acc beg own idle lasts short after) =
     rw (acc, beg, after, lasts, entry-at (l .running .account) account (λ total. total + min busy (ticks c)) (l .totals) (w .totals) low)
     (total-begun (eqb (l .running .account) account) (eqb (c .account) account) (getD (l .totals) account 0) busy (ticks c) (cond (stops c) 0 (passed cs))
-    (min (durationOf (c .call)) (passed cs)) (bills account (operations cs)) idle)
+    (min (lastsFor (c .call)) (passed cs)) (bills account (operations cs)) idle)
 total-step account c cs l l′ busy busy′ low w (Stepped.going acc beg left after) =
     rw
-    (acc, beg, after, entry-at (l .running .account) account (λ total. total + min busy (ticks c)) (l .totals) (w .totals) low, still-running account (l .running) (min busy (ticks c)) busy′ (passed cs) low)
+    (acc, beg, after, entry-at (l .running .account) account (λ total. total + min busy (ticks c)) (l .totals) (w .totals) low, still-running account (l .running) (min busy (ticks c)) busy′ (passed cs))
     (total-going (eqb (l .running .account) account) (getD (l .totals) account 0) busy (ticks c) (min busy′ (passed cs))
     (min busy (ticks c + cond (stops c) 0 (passed cs))) (sum (bills account (operations cs))) (off-then (stops c) busy busy′ (ticks c) (passed cs) left))
 
@@ -129,7 +129,7 @@ unfolding operations bills
 number-step account c cs l l′ busy busy′ low w (Stepped.refusedly acc beg kept same) = rw (beg, kept)
 number-step account c cs l l′ busy busy′ low w (Stepped.beginning acc beg own idle lasts short after) =
     rw (beg, after, entry-at (c .account) account suc (l .numbers) (w .numbers) low)
-    (one-more (eqb (c .account) account) (getD (l .numbers) account 0) (min (durationOf (c .call)) (passed cs)) (bills account (operations cs)))
+    (one-more (eqb (c .account) account) (getD (l .numbers) account 0) (min (lastsFor (c .call)) (passed cs)) (bills account (operations cs)))
 number-step account c cs l l′ busy busy′ low w (Stepped.going acc beg left after) = rw (beg, after)
 
 number : (account : ℕ) (es : List Entry) (d : Device) (l : Ledger) → account < 256 → Whole l
@@ -243,7 +243,7 @@ most-step account c cs l l′ busy busy′ low w fair (Stepped.beginning acc beg
     let all-off : min busy (ticks c + cond (stops c) 0 (passed cs)) ≡ min busy (ticks c) = omega arith in
     rw (acc, beg, after, lasts, all-off, most-entry account c l busy low w fair)
     (most-begun (eqb (c .account) account) (max (getD (l .most) account 0) (cond (eqb (l .running .account) account) (l .running .billed + min busy (ticks c)) 0))
-    (min (durationOf (c .call)) (passed cs)) (bills account (operations cs)))
+    (min (lastsFor (c .call)) (passed cs)) (bills account (operations cs)))
 most-step account c cs l l′ busy busy′ low w fair (Stepped.going acc beg left after) =
     rw (acc, beg, after) (ap (λ (m : ℕ). max m (largest (bills account (operations cs)))) (most-going account c l busy low w fair busy′ (passed cs) left))
 

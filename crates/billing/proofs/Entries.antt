@@ -15,7 +15,7 @@ use Rattle.series.specs.Turns.{callOf, lengthsOf}
 use Rattle.series.proofs.Turns.{refused-reply}
 use Rattle.accounts.specs.Ledger.{Ledger, shut, booked}
 use Rattle.ledger.specs.Frame.{shutOut, replied}
-use Rattle.billing.specs.Entries.{Entry, Done, replyTo, ledgerBy, doneOf, calls, lastRecord, lastLedger}
+use Rattle.billing.specs.Entries.{Entry, Done, replyTo, ledgerBy, doneOf, calls, lastRecord, lastLedger, turnsThrough}
 
 module _ (e : Entry) (d : Device) (l : Ledger) where
   abbrev c : Call
@@ -49,6 +49,23 @@ module _ (e : Entry) (d : Device) (l : Ledger) where
   pub refused-ledger : replyTo e d l .refusal ≢ 0 → ledgerBy e d l ≡ l
   unfolding booked
   refused-ledger n = rw (ne-eqb (replyTo e d l .refusal) 0 n)
+
+-- what follows depends on the record and the ledger alone
+pub onward : (es : List Entry) (d also : Device) (l kept : Ledger) → d ≡ also → l ≡ kept
+    → (calls es d l ≡ calls es also kept) × (lastRecord es d l ≡ lastRecord es also kept) × (lastLedger es d l ≡ lastLedger es also kept)
+    × (turnsThrough es d l ≡ turnsThrough es also kept)
+onward es d also l kept p q = (rw (p, q), rw (p, q), rw (p, q), rw (p, q))
+
+-- one step
+pub one-entry : (e : Entry) (es : List Entry) (d : Device) (l : Ledger)
+    → (calls (e ∷ es) d l ≡ doneOf e d l ∷ calls es (replyTo e d l .device) (ledgerBy e d l))
+    × (lastRecord (e ∷ es) d l ≡ lastRecord es (replyTo e d l .device) (ledgerBy e d l))
+    × (lastLedger (e ∷ es) d l ≡ lastLedger es (replyTo e d l .device) (ledgerBy e d l))
+    × (turnsThrough (e ∷ es) d l
+    ≡ cond (shutOut (callOf (e .turn) d) (lengthsOf (e .turn)) (e .account) l) (turnsThrough es (replyTo e d l .device) (ledgerBy e d l))
+    (e .turn ∷ turnsThrough es (replyTo e d l .device) (ledgerBy e d l)))
+unfolding calls lastRecord lastLedger turnsThrough
+one-entry e es d l = (refl, refl, refl, refl)
 
 -- two lists joined: the second one starts with the record and the ledger that the first one left
 pub calls-joined : (es fs : List Entry) (d : Device) (l : Ledger) → calls (es ++ fs) d l ≡ calls es d l ++ calls fs (lastRecord es d l) (lastLedger es d l)

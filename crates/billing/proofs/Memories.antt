@@ -3,7 +3,6 @@
 use mathlib.Core.Bool.{Bool, true, false, cond}
 use mathlib.Core.List.{List, [], _∷_, map}
 use mathlib.Core.Path.{_≡_, refl, sym, ap, subst, _∙_}
-use Rattle.sheet.specs.declared.device.Device.{Device}
 use Rattle.lent.specs.declared.refusal.Lengths.{Lengths}
 use Rattle.lent.specs.declared.refusal.Refusal.{Refusal}
 use Rattle.part.specs.declared.frame.Answer.{Answer}
@@ -15,11 +14,12 @@ use Rattle.series.specs.Series as series
 use Rattle.series.specs.Series.{Step, lentTo}
 use Rattle.series.proofs.Lending.{returned-same}
 use Rattle.series.proofs.Steps.{same-lengths}
-use Rattle.accounts.specs.Ledger.{Ledger, booked}
-use Rattle.ledger.specs.Frame.{Result, shutOut, replied, frame}
-use Rattle.billing.specs.Entries.{Entry, entry, replyTo, ledgerBy, calls, lastRecord, lastLedger, turnsThrough}
+use Rattle.accounts.specs.Ledger.{ledger, booked}
+use Rattle.ledger.specs.Frame.{Result, shutOut, replied, frame, Meets}
+use Rattle.billing.specs.Entries.{entry, replyTo, ledgerBy, calls, lastRecord, lastLedger, turnsThrough}
 use Rattle.billing.specs.Series.{Booking, Desk, Made, entriesOf, resultOf, left, results, end, stepsThrough, madeOf, Ran}
 use Rattle.billing.specs.Promises.{answersOf}
+use Rattle.billing.proofs.Entries.{onward}
 
 module _ (b : Booking) (t : Desk) where
   abbrev turn : Turn
@@ -75,12 +75,6 @@ as-the-part (b ∷ bs) t = as-the-part bs (left (resultOf b t) t) ∙ by (shutTo
     by true e = ap (series.end (stepsThrough bs (left (resultOf b t) t))) (state-through b t true e)
     by false e = ap (series.end (stepsThrough bs (left (resultOf b t) t))) (state-through b t false e)
 
--- what follows depends on the record and the ledger alone
-onward : (es : List Entry) (d also : Device) (l kept : Ledger) → d ≡ also → l ≡ kept
-    → (answersOf (calls es d l) ≡ answersOf (calls es also kept)) × (lastRecord es d l ≡ lastRecord es also kept) × (lastLedger es d l ≡ lastLedger es also kept)
-    × (turnsThrough es d l ≡ turnsThrough es also kept)
-onward es d also l kept p q = (rw (p, q), rw (p, q), rw (p, q), rw (p, q))
-
 turns-of : (shut : Bool) (s : Step) (ss : List Step) → series.turnsOf (cond shut ss (s ∷ ss)) ≡ cond shut (series.turnsOf ss) (s .turn ∷ series.turnsOf ss)
 turns-of true s ss = refl
 turns-of false s ss = refl
@@ -96,13 +90,25 @@ as-computed (b ∷ bs) t =
     let rest = as-computed bs (left (resultOf b t) t) in
     let on = onward (entriesOf bs) _ _ _ _ (ap (λ (r : Reply). r .device) (reply-through b t)) (ledger-through b t) in
     let e = entry (b .step .turn) (b .account) in (
-      ap (λ (rs : List Reply). resultOf b t .reply ∷ rs) (rest .0 ∙ on .0) ∙
+      ap (λ (rs : List Reply). resultOf b t .reply ∷ rs) (rest .0 ∙ ap answersOf (on .0)) ∙
           ap (λ (r : Reply). r ∷ answersOf (calls (entriesOf bs) (replyTo e (t .state .device) (t .ledger) .device) (ledgerBy e (t .state .device) (t .ledger)))) (reply-through b t),
       rest .1 ∙ on .1,
       rest .2 ∙ on .2,
       turns-of (shutTo b t (lengthsOf (b .step .turn))) (b .step) (stepsThrough bs (left (resultOf b t) t)) ∙
           ap (λ (ts : List Turn). cond (shutTo b t (lengthsOf (b .step .turn))) ts (b .step .turn ∷ ts)) (rest .3 ∙ on .3),
     )
+
+-- one step
+pub one-result : (b : Booking) (bs : List Booking) (t : Desk) → (results (b ∷ bs) t ≡ resultOf b t ∷ results bs (left (resultOf b t) t)) × (end (b ∷ bs) t ≡ end bs (left (resultOf b t) t))
+unfolding results end
+one-result b bs t = (refl, refl)
+
+pub one-run : (b : Booking) (bs : List Booking) (t u : Desk) (a : Made) (rest : List Made) → Ran (b ∷ bs) t (a ∷ rest) u
+    → Meets (callOf (b .step .turn) (t .state .device)) (lentTo (b .step) (t .state)) (b .account) (t .ledger) (replyOf (a .booked .answer)) (a .lent)
+    (ledger (a .totals) (a .most) (a .numbers) (a .booked .running))
+    × Ran bs (left (madeOf a) t) rest u
+unfolding Ran
+one-run b bs t u a rest r = r
 
 pub as-the-code-does : (bs : List Booking) (t u : Desk) (cs : List Made) → Ran bs t cs u → (map madeOf cs ≡ results bs t) × (u ≡ end bs t)
 unfolding Ran results end

@@ -1,5 +1,6 @@
 -- A call that begins nothing may be another account's, and a refused one may be left out. Assumes nothing.
 use Prim.Native.Nat.{ℕ, _<_}
+use Prim.Native.String.{String}
 use mathlib.Core.Bool.{Bool, true, false}
 use mathlib.Core.List.{List, _∷_, _++_}
 use mathlib.Core.Logic.{_≢_}
@@ -13,10 +14,10 @@ use Rattle.series.specs.Turns.{Turn}
 use Rattle.accounts.specs.Ledger.{Ledger, booked}
 use Rattle.ledger.specs.Frame.{replied}
 use Rattle.billing.specs.Entries.{Entry, entry, replyTo, ledgerBy, lastRecord, lastLedger}
-use Rattle.billing.proofs.Entries.{refused-through, refused-ledger, record-joined, ledger-joined}
+use Rattle.billing.proofs.Entries.{refused-through, refused-ledger, onward, record-joined, ledger-joined}
 
 -- a word that is not begun
-not-begun : (word : Prim.Native.String.String) → word ≢ "begun" → eqt word "begun" ≡ false
+not-begun : (word : String) → word ≢ "begun" → eqt word "begun" ≡ false
 not-begun word n = by (eqt word "begun") refl
   where
     by : (b : Bool) → eqt word "begun" ≡ b → b ≡ false
@@ -32,11 +33,6 @@ module _ (turn : Turn) (account other : ℕ) (d : Device) (l : Ledger) (low : ac
   unfolding booked
   same-ledger n = rw (← same-reply, not-begun (replyTo (entry turn account) d l .outcome) n)
 
--- what follows depends on the record and the ledger alone
-onward : (es : List Entry) (d also : Device) (l kept : Ledger) → d ≡ also → l ≡ kept
-    → (lastLedger es d l ≡ lastLedger es also kept) × (lastRecord es d l ≡ lastRecord es also kept)
-onward es d also l kept p q = (rw (p, q), rw (p, q))
-
 pub whoever-polls : (before after : List Entry) (turn : Turn) (account other : ℕ) (d : Device) (l : Ledger) → account < 256 → other < 256
     → replyTo (entry turn account) (lastRecord before d l) (lastLedger before d l) .outcome ≢ "begun"
     → (lastLedger (before ++ entry turn account ∷ after) d l ≡ lastLedger (before ++ entry turn other ∷ after) d l)
@@ -45,7 +41,7 @@ unfolding lastLedger lastRecord
 whoever-polls before after turn account other d l low also n =
     let same = same-reply turn account other (lastRecord before d l) (lastLedger before d l) low also in
     let on = onward after _ _ _ _ (ap (λ (r : Reply). r .device) same) (same-ledger turn account other (lastRecord before d l) (lastLedger before d l) low also n) in (
-      ledger-joined before (entry turn account ∷ after) d l ∙ (on .0 ∙ sym (ledger-joined before (entry turn other ∷ after) d l)),
+      ledger-joined before (entry turn account ∷ after) d l ∙ (on .2 ∙ sym (ledger-joined before (entry turn other ∷ after) d l)),
       record-joined before (entry turn account ∷ after) d l ∙ (on .1 ∙ sym (record-joined before (entry turn other ∷ after) d l)),
     )
 
@@ -56,6 +52,6 @@ unfolding lastLedger lastRecord
 refused-changes-nothing before after e d l n =
     let kept = ap (λ (r : Reply). r .device) (refused-through e (lastRecord before d l) (lastLedger before d l) n) in
     let on = onward after _ _ _ _ kept (refused-ledger e (lastRecord before d l) (lastLedger before d l) n) in (
-      ledger-joined before (e ∷ after) d l ∙ (on .0 ∙ sym (ledger-joined before after d l)),
+      ledger-joined before (e ∷ after) d l ∙ (on .2 ∙ sym (ledger-joined before after d l)),
       record-joined before (e ∷ after) d l ∙ (on .1 ∙ sym (record-joined before after d l)),
     )

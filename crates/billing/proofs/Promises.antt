@@ -4,17 +4,22 @@ use mathlib.Core.List.{List, map}
 use mathlib.Core.Path.{_≡_, refl, sym, ap, _∙_}
 use lib.ListN.{length, getD}
 use Rattle.series.specs.Turns as turns
-use Rattle.series.specs.Turns.{Turn}
+use Rattle.series.specs.Turns.{Turn, callOf, lengthsOf}
 use Rattle.series.specs.Series as series
 use Rattle.series.specs.Series.{State}
 use Rattle.series.specs.Bytes.{since, bytesAt, andAll, startAt}
 use Rattle.series.proofs.Promises as series-proofs
+use Rattle.accounts.specs.Ledger.{empty}
 use Rattle.ledger.specs.Frame.{Result}
-use Rattle.billing.specs.Series.{Booking, Desk, entriesOf, results, end, stepsThrough}
-use Rattle.billing.specs.Promises.{Promises, effects}
+use Rattle.ledger.proofs.Frames.{nine-exactly}
+use Rattle.billing.specs.Entries.{lastLedger}
+use Rattle.billing.specs.Operations.{sum, largest}
+use Rattle.billing.specs.Series.{Booking, Desk, Made, entriesOf, results, end, stepsThrough, Ran}
+use Rattle.billing.specs.Promises.{Promises, billsIn, effects}
+use Rattle.billing.proofs.Entries.{one-entry}
 use Rattle.billing.proofs.Bills.{from-empty, all-together}
 use Rattle.billing.proofs.Polls.{whoever-polls, refused-changes-nothing}
-use Rattle.billing.proofs.Memories.{as-the-part, as-computed, as-the-code-does, made, runs}
+use Rattle.billing.proofs.Memories.{as-the-part, as-computed, one-result, one-run, as-the-code-does, made, runs}
 
 never-from-stored-bytes : (bs also : List Booking) (t u : Desk) → entriesOf bs ≡ entriesOf also → t .state .device ≡ u .state .device → t .ledger ≡ u .ledger
     → (map (λ (r : Result). r .reply) (results bs t) ≡ map (λ (r : Result). r .reply) (results also u)) × (end bs t .ledger ≡ end also u .ledger)
@@ -35,9 +40,23 @@ and-since-the-last-erase bs t k low =
     ap (λ (ts : List Turn). let os = turns.operations ts (t .state .device) in andAll (startAt os k (getD (t .state .array) k 0)) (bytesAt (since os k) k))
     (as-computed bs t .3))
 
+billed-by-the-code : (bs : List Booking) (t u : Desk) (cs : List Made) (account : ℕ) → Ran bs t cs u → t .ledger ≡ empty → account < 256
+    → (getD (u .ledger .totals) account 0 ≡ sum (billsIn (entriesOf bs) (t .state .device) account))
+    × (getD (u .ledger .most) account 0 ≡ largest (billsIn (entriesOf bs) (t .state .device) account))
+    × (getD (u .ledger .numbers) account 0 ≡ length (billsIn (entriesOf bs) (t .state .device) account))
+billed-by-the-code bs t u cs account r e low =
+    let last : u .ledger ≡ lastLedger (entriesOf bs) (t .state .device) empty =
+    ap (λ (v : Desk). v .ledger) (as-the-code-does bs t u cs r .1) ∙ (as-computed bs t .2 ∙ ap (lastLedger (entriesOf bs) (t .state .device)) e) in
+    rw last (from-empty (entriesOf bs) (t .state .device) account low)
+
 pub promises : Promises
 promises =
     record {
+      one-after-the-other = λ e es d l c r k p q s. rw (s, q, p) (one-entry e es d l);
+      frame-by-frame = λ b bs t r p. rw p (one-result b bs t);
+      call-by-call = one-run;
+      nine-exactly = λ e d l. nine-exactly (callOf (e .turn) d) (lengthsOf (e .turn)) (e .account) l;
+      billed-by-the-code = billed-by-the-code;
       billed-to-the-beginner = from-empty;
       all-together = all-together;
       whoever-polls = whoever-polls;

@@ -11,7 +11,7 @@ use lib.Dec.{T, eqb}
 use lib.Text.{eqt, eqt→eq}
 use Rattle.sheet.specs.declared.device.Device.{Device}
 use Rattle.sheet.proofs.Records.{sound-then}
-use Rattle.part.specs.Busy.{durationOf, busyAfter}
+use Rattle.part.specs.Busy.{lastsFor, busyAfter}
 use Rattle.part.specs.Frame as part
 use Rattle.part.proofs.Busy.{begun-idle, busy-is}
 use Rattle.series.specs.Turns.{callOf, lengthsOf}
@@ -30,7 +30,7 @@ billed c l busy numbers running = let after = charged (min busy (ticks c)) l in 
 -- from a ledger and so many busy ticks to those afterwards
 pub data Stepped (c : Done) (l l′ : Ledger) (busy busy′ : ℕ) : Type 0 where
   refusedly : accepted c ≡ false → begins c ≡ false → l′ ≡ l → busy′ ≡ busy → Stepped c l l′ busy busy′
-  beginning : accepted c ≡ true → begins c ≡ true → c .account < 256 → busy ≤ ticks c → busy′ ≡ durationOf (c .call) → busy′ ≤ 60000000
+  beginning : accepted c ≡ true → begins c ≡ true → c .account < 256 → busy ≤ ticks c → busy′ ≡ lastsFor (c .call) → busy′ ≤ 60000000
       → l′ ≡ billed c l busy (at (c .account) suc (l .numbers)) (runs (c .account) 0) → Stepped c l l′ busy busy′
   going : accepted c ≡ true → begins c ≡ false → busy′ ≡ cond (stops c) 0 (busy - ticks c)
       → l′ ≡ billed c l busy (l .numbers) (cond (eqb busy′ 0) nobody (paid (l .running) (min busy (ticks c)))) → Stepped c l l′ busy busy′

@@ -12,4 +12,4 @@ use Rattle.billing.specs.Worked.{Worked}
 
 pub worked : Worked
 unfolding lastLedger replied booked aboveBefore part.replied part.numberFor part.judgedOf refusalOf anyUnfair judged byOpcode rowOf rows lookup
-worked = record { first-thousands = refl; all-day = refl; nothing = refl; reset = refl; nobodys = refl; both = refl }
+worked = record { first-million = refl; all-day = refl; nothing = refl; reset = refl; nobodys = refl; both = refl }

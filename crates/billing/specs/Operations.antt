@@ -5,7 +5,7 @@ use mathlib.Core.Bool.{Bool, cond}
 use mathlib.Core.List.{List, [], _∷_}
 use lib.Dec.{eqb}
 use lib.Text.{eqt}
-use Rattle.part.specs.Busy.{ticksOf, resets, durationOf}
+use Rattle.part.specs.Busy.{ticksOf, resets, lastsFor}
 use Rattle.billing.specs.Entries.{Done}
 
 abbrev pub accepted : Done → Bool
@@ -35,7 +35,7 @@ pub record Operation : Type 0 where
   pub passed : ℕ
 
 abbrev pub begunBy : Done → List Done → Operation
-begunBy c cs = record { account = c .account; duration = durationOf (c .call); passed = passed cs }
+begunBy c cs = record { account = c .account; duration = lastsFor (c .call); passed = passed cs }
 
 -- the operations that the calls of a list began, in order
 unfoldable pub operations : List Done → List Operation

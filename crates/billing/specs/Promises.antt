@@ -1,22 +1,24 @@
 -- What the ledger promises of any series of calls, refused calls and resets among them: whose ticks are whose. To read it: es are entries,
 -- d is a record, l a ledger, bs are bookings, t and u are what stands before or after them. Assumes nothing.
 use Prim.Native.Nat.{ℕ, _+_, _<_, min}
+use mathlib.Core.Bool.{true, cond}
 use mathlib.Core.List.{List, _∷_, _++_, map}
 use mathlib.Core.Logic.{_≢_}
 use mathlib.Core.Path.{_≡_}
 use lib.ListN.{length, getD}
 use Rattle.sheet.specs.declared.device.Device.{Device}
-use Rattle.part.specs.Frame.{Reply}
+use Rattle.part.specs.Frame.{Call, Reply, numberFor, replyOf}
 use Rattle.memory.specs.Operations as memory
 use Rattle.series.specs.Turns as turns
-use Rattle.series.specs.Turns.{Turn}
+use Rattle.series.specs.Turns.{Turn, callOf, lengthsOf}
 use Rattle.series.specs.Series as series
 use Rattle.series.specs.Bytes.{since, bytesAt, andAll, startAt}
-use Rattle.accounts.specs.Ledger.{Ledger, empty}
+use Rattle.accounts.specs.Ledger.{Ledger, ledger, empty, shut, booked}
+use Rattle.ledger.specs.Frame as through
 use Rattle.ledger.specs.Frame.{Result}
 use Rattle.billing.specs.Entries.{Entry, Done, entry, replyTo, calls, lastRecord, lastLedger, turnsThrough}
 use Rattle.billing.specs.Operations.{passed, operations, bills, sum, largest, busyTicks}
-use Rattle.billing.specs.Series.{Booking, Desk, Made, entriesOf, results, end, stepsThrough, madeOf, Ran}
+use Rattle.billing.specs.Series.{Booking, Desk, Made, entriesOf, left, results, end, stepsThrough, madeOf, Ran}
 
 -- what each operation of an account is billed in a series from an empty ledger
 abbrev pub billsIn : List Entry → Device → ℕ → List ℕ
@@ -31,12 +33,37 @@ abbrev pub effects : List Entry → Device → Ledger → List memory.Operation
 effects es d l = turns.operations (turnsThrough es d l) d
 
 pub record Promises : Type 0 where
+  -- One call after the other: each is given the record and the ledger that the last one left, with its own account; it answers and books by
+  -- them. Shut out by the ledger it is no turn of the part's.
+  pub one-after-the-other : (e : Entry) (es : List Entry) (d : Device) (l : Ledger) (c : Call) (r : Reply) (k : Ledger) → c ≡ callOf (e .turn) d
+      → r ≡ through.replied c (lengthsOf (e .turn)) (e .account) l → k ≡ booked (d .busy) (e .turn .signals) r (e .account) l
+      → (calls (e ∷ es) d l ≡ record { account = e .account; call = c; reply = r } ∷ calls es (r .device) k) × (lastRecord (e ∷ es) d l ≡ lastRecord es (r .device) k)
+      × (lastLedger (e ∷ es) d l ≡ lastLedger es (r .device) k)
+      × (turnsThrough (e ∷ es) d l ≡ cond (through.shutOut c (lengthsOf (e .turn)) (e .account) l) (turnsThrough es (r .device) k) (e .turn ∷ turnsThrough es (r .device) k))
+  -- On memories each call is a frame through the ledger, on what the last one left;
+  pub frame-by-frame : (b : Booking) (bs : List Booking) (t : Desk) (r : Result)
+      → r ≡ through.frame (callOf (b .step .turn) (t .state .device)) (series.lentTo (b .step) (t .state)) (b .account) (t .ledger)
+      → (results (b ∷ bs) t ≡ r ∷ results bs (left r t)) × (end (b ∷ bs) t ≡ end bs (left r t))
+  -- and a run of the code is a call that meets its contract, and a run on what it left.
+  pub call-by-call : (b : Booking) (bs : List Booking) (t u : Desk) (a : Made) (rest : List Made) → Ran (b ∷ bs) t (a ∷ rest) u
+      → through.Meets (callOf (b .step .turn) (t .state .device)) (series.lentTo (b .step) (t .state)) (b .account) (t .ledger) (replyOf (a .booked .answer)) (a .lent)
+      (ledger (a .totals) (a .most) (a .numbers) (a .booked .running))
+      × Ran bs (left (madeOf a) t) rest u
+  -- Refusal 9 is given exactly if no lower one is and the account is over 255, or a total or number of any account is above the limit.
+  pub nine-exactly : (e : Entry) (d : Device) (l : Ledger)
+      → (replyTo e d l .refusal ≡ 9 → (numberFor (callOf (e .turn) d) (lengthsOf (e .turn)) ≡ 0) × (shut (e .account) l ≡ true))
+      × (numberFor (callOf (e .turn) d) (lengthsOf (e .turn)) ≡ 0 → shut (e .account) l ≡ true → replyTo e d l .refusal ≡ 9)
   -- From an empty ledger, at any point: an account's total is the sum, over the operations that it began, of the lesser of the duration and
   -- the ticks passed in accepted calls from the frame's end to the end of the reset that stopped it, or of the latest accepted call. The
   -- most is the largest of these, and the number is how many they are.
   pub billed-to-the-beginner : (es : List Entry) (d : Device) (account : ℕ) → account < 256
       → (getD (lastLedger es d empty .totals) account 0 ≡ sum (billsIn es d account)) × (getD (lastLedger es d empty .most) account 0 ≡ largest (billsIn es d account))
       × (getD (lastLedger es d empty .numbers) account 0 ≡ length (billsIn es d account))
+  -- The same of the code: whatever ran the series from an empty ledger left these tables.
+  pub billed-by-the-code : (bs : List Booking) (t u : Desk) (cs : List Made) (account : ℕ) → Ran bs t cs u → t .ledger ≡ empty → account < 256
+      → (getD (u .ledger .totals) account 0 ≡ sum (billsIn (entriesOf bs) (t .state .device) account))
+      × (getD (u .ledger .most) account 0 ≡ largest (billsIn (entriesOf bs) (t .state .device) account))
+      × (getD (u .ledger .numbers) account 0 ≡ length (billsIn (entriesOf bs) (t .state .device) account))
   -- All totals together are the busy ticks that passed, but for those of the first record, which are billed to nobody.
   pub all-together : (es : List Entry) (d : Device)
       → sum (lastLedger es d empty .totals) + min (d .busy) (passed (calls es d empty)) ≡ busyTicks (calls es d empty)

@@ -86,7 +86,7 @@ two-operations =
     []
 
 pub record Worked : Type 0 where
-  pub first-thousands : lastLedger (sent 7 0 (0x06 ∷ []) ∷ sent 7 0 (0xC7 ∷ []) ∷ poll 12 1000000 ∷ []) (busy 0) empty
+  pub first-million : lastLedger (sent 7 0 (0x06 ∷ []) ∷ sent 7 0 (0xC7 ∷ []) ∷ poll 12 1000000 ∷ []) (busy 0) empty
       ≡ ledger (set zeros 7 1000000) (set zeros 7 1000000) (set zeros 7 1) (runs 7 1000000)
   pub all-day : lastLedger polled-by-another (busy 0) empty ≡ ledger (set zeros 7 1600000) (set zeros 7 1600000) (set zeros 7 1) nobody
   pub nothing : lastLedger never-latched (busy 0) empty ≡ empty

@@ -1,13 +1,14 @@
 -- A call through the ledger, by whether the ledger is shut to it. Assumes nothing.
 use Prim.Native.Nat.{ℕ, _<_, _≤_}
-use mathlib.Core.Bool.{Bool, true, false, true≢false, cond, not, _||_, and-false}
+use mathlib.Core.Bool.{Bool, true, false, true≢false, cond, not, _||_, and-false, and-eq-true-iff}
 use mathlib.Core.Path.{_≡_, refl, sym, ap, _∙_}
 use mathlib.Core.Logic.{_≢_}
 use native.Mathlib.Decide.{ℕ-discrete}
 use native.Mathlib.Omega.{arith}
-use borrow.Author.Tests.{ltb-true, ne-eqb}
+use borrow.Author.Tests.{ltb-true, eqb-true, ne-eqb}
 use lib.Dec.{ltb, eqb}
 use Rattle.sheet.proofs.Records.{sound-then}
+use Rattle.lent.specs.declared.refusal.Lengths.{Lengths}
 use Rattle.lent.specs.Refusal.{numberOf}
 use Rattle.lent.proofs.Lengths.{accepted}
 use Rattle.part.specs.declared.frame.Answer.{Answer}
@@ -16,6 +17,8 @@ use Rattle.part.specs.Frame.{Call, Lent, Reply, Result, lengthsOf, numberFor, r
 use Rattle.part.proofs.Answers as answers
 use Rattle.part.proofs.Answers.{refusal-is}
 use Rattle.accounts.specs.Ledger.{Ledger, anyAbove, shut, booked}
+use Rattle.ledger.specs.declared.Booked.{Booked}
+use Rattle.ledger.specs.Frame as through
 use Rattle.ledger.specs.Frame.{shutOut, afterOthers, replied, frame, Meets}
 
 -- what is known of a ledger that is not shut
@@ -67,11 +70,30 @@ refused-leaves c m account l n = by (shutOut c (lengthsOf c m) account l) n
     by true n = (refl, refl, refl)
     by false n = let kept = answers.refused-leaves c m n in (kept .0, kept .1, rw (ne-eqb (part.replied c (lengthsOf c m) .refusal) 0 n))
 
--- and none is refused with 255
-pub not-255 : (c : Call) (m : Lent) (account : ℕ) (l : Ledger) → frame c m account l .reply .refusal ≢ 255
-unfolding frame replied
-not-255 c m account l = by (shutOut c (lengthsOf c m) account l)
+-- refusal 9 is given exactly if no other is and the ledger is shut
+pub nine-exactly : (c : Call) (lengths : Lengths) (account : ℕ) (l : Ledger)
+    → (replied c lengths account l .refusal ≡ 9 → (numberFor c lengths ≡ 0) × (shut account l ≡ true))
+    × (numberFor c lengths ≡ 0 → shut account l ≡ true → replied c lengths account l .refusal ≡ 9)
+unfolding replied
+nine-exactly c lengths account l = (λ e. by (shutOut c lengths account l) refl e, λ z s. rw (z, s))
   where
-    by : (s : Bool) → cond s (refused 9 (c .device)) (part.replied c (lengthsOf c m)) .refusal ≢ 255
-    by true = λ e. omega arith
-    by false = answers.not-255 c (lengthsOf c m)
+    by : (b : Bool) → shutOut c lengths account l ≡ b → cond b (refused 9 (c .device)) (part.replied c lengths) .refusal ≡ 9
+        → (numberFor c lengths ≡ 0) × (shut account l ≡ true)
+    by true t e = let both = and-eq-true-iff (eqb (numberFor c lengths) 0) (shut account l) .0 t in (eqb-true (numberFor c lengths) 0 (both .0), both .1)
+    by false t e = let small = answers.at-most-8 c lengths in absurd (omega arith)
+
+-- and no number is above 9
+pub at-most-9 : (c : Call) (m : Lent) (account : ℕ) (l : Ledger) → frame c m account l .reply .refusal ≤ 9
+unfolding frame replied
+at-most-9 c m account l = by (shutOut c (lengthsOf c m) account l)
+  where
+    by : (s : Bool) → cond s (refused 9 (c .device)) (part.replied c (lengthsOf c m)) .refusal ≤ 9
+    by true = omega arith
+    by false = let small = answers.at-most-8 c (lengthsOf c m) in omega arith
+
+-- the contract admits one answer, and no other
+pub one-answer : (c : Call) (m n o : Lent) (account : ℕ) (l k j : Ledger) (a b : Booked) → Meets c m account l (replyOf (a .answer)) n k
+    → Meets c m account l (replyOf (b .answer)) o j → (a .answer ≡ b .answer) × (n ≡ o) × (k ≡ j)
+one-answer c m n o account l k j a b p q =
+    let e = p ∙ sym q in
+    (answers.same-reply (a .answer) (b .answer) (ap (λ (r : through.Result). r .reply) e), ap (λ (r : through.Result). r .lent) e, ap (λ (r : through.Result). r .ledger) e)

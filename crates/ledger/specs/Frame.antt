@@ -12,7 +12,7 @@ use Rattle.accounts.specs.Ledger.{Ledger, shut, booked}
 abbrev pub shutOut : Call → Lengths → ℕ → Ledger → Bool
 shutOut c lengths account l = eqb (numberFor c lengths) 0 && shut account l
 
--- the number of such a call
+-- the number of a call to which the ledger is shut
 abbrev pub afterOthers : ℕ → ℕ
 afterOthers number = cond (eqb number 0) 9 number
 

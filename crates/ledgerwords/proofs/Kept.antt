@@ -1,17 +1,21 @@
 -- What is not accepted changes nothing, word by word. Assumes nothing.
 use Prim.Native.Nat.{ℕ}
-use mathlib.Core.Bool.{Bool, true, false, cond, _&&_}
+use mathlib.Core.Bool.{Bool, true, false, cond, _&&_, and-false}
 use mathlib.Core.List.{List, [], _∷_}
 use mathlib.Core.Logic.{_≢_}
 use mathlib.Core.Path.{_≡_, refl, sym, ap, _∙_}
+use native.Mathlib.Decide.{ℕ-discrete}
 use native.Mathlib.Omega.{arith}
+use borrow.Author.Tests.{ne-eqb}
 use lib.Dec.{eqb}
-use lib.ListN.{length, getD}
+use lib.ListN.{length}
+use Rattle.lent.specs.Refusal.{numberOf}
 use Rattle.part.specs.Frame.{Lent}
+use Rattle.accounts.specs.declared.Reported.{Reported}
 use Rattle.accounts.specs.declared.Running.{Running}
-use Rattle.accounts.specs.Ledger.{Ledger, isAccount}
+use Rattle.accounts.specs.Ledger.{Ledger}
 use Rattle.ledger.specs.Frame.{frame}
-use Rattle.ledger.proofs.Frames.{refused-leaves, not-255}
+use Rattle.ledger.proofs.Frames.{refused-leaves, at-most-9}
 use Rattle.packing.specs.Packing.{packed, writtenIf}
 use Rattle.packing.proofs.Records.{same-words}
 use Rattle.framewords.specs.Words.{Handed, callOf}
@@ -32,7 +36,10 @@ pub bill-unread : (h : Handed) (k : Ticket) (m : Lent)
 bill-unread h k m = (passed-over h k m, λ e. by (isCallFor h k) refl e)
   where
     by : (b : Bool) → isCallFor h k ≡ b → faced h k m .frame .number ≡ 255 → isCallFor h k ≡ false
-    by true r e = absurd (not-255 (callOf h) m (k .account) (ledgerOf k) (sym (ap (λ (l : LeftFor). l .frame .number) (read h k m r)) ∙ e))
+    by true r e =
+        let small = at-most-9 (callOf h) m (k .account) (ledgerOf k) in
+        let number = sym (ap (λ (l : LeftFor). l .frame .number) (read h k m r)) ∙ e in
+        absurd (omega arith)
     by false r e = r
 
 -- two words are those of the running operation that they stand for
@@ -63,14 +70,14 @@ bill-kept h k m n = by (isCallFor h k) refl
         )
     by false r = rw (passed-over h k m r) (refl, refl, refl, refl, refl, refl)
 
-pub report-kept : (account : ℕ) (totals most numbers line : List ℕ) → reportNumber account line ≢ 0 → reportWords account totals most numbers line ≡ line
-report-kept account totals most numbers line n = by (isAccount account) (eqb (length line) 3) n
+pub report-kept : (r : Reported) (line : List ℕ) → reportNumber r line ≢ 0 → reportWords r line ≡ line
+report-kept r line n = by (ℕ-discrete (numberOf (r .refusal)) 0) (eqb (length line) 3) n
   where
-    by : (b r : Bool) → cond {A = ℕ} r (cond b 0 9) 255 ≢ 0
-        → writtenIf (b && r) (getD totals account 0 ∷ getD most account 0 ∷ getD numbers account 0 ∷ []) line ≡ line
-    by true true n = absurd (n refl)
-    by true false n = refl
-    by false r n = refl
+    by : Dec (numberOf (r .refusal) ≡ 0) → (b : Bool) → cond b (numberOf (r .refusal)) 255 ≢ 0
+        → writtenIf (eqb (numberOf (r .refusal)) 0 && b) (r .total ∷ r .most ∷ r .number ∷ []) line ≡ line
+    by (yes z) true n = absurd (n z)
+    by (yes z) false n = rw (and-false (eqb (numberOf (r .refusal)) 0))
+    by (no m) b n = rw (ne-eqb (numberOf (r .refusal)) 0 m)
 
 pub same-running : (r : Running) → (isRunning (runningWords r) ≡ true) × (runningOf (runningWords r) ≡ r)
 same-running r = (refl, refl)

@@ -5,9 +5,11 @@ use mathlib.Core.Bool.{Bool, cond, _&&_}
 use mathlib.Core.List.{List, [], _∷_}
 use lib.Dec.{eqb}
 use lib.ListN.{length, getD}
+use Rattle.lent.specs.Refusal.{numberOf}
 use Rattle.part.specs.Frame.{Lent}
+use Rattle.accounts.specs.declared.Reported.{Reported}
 use Rattle.accounts.specs.declared.Running.{Running}
-use Rattle.accounts.specs.Ledger.{Ledger, ledger, runs, isAccount}
+use Rattle.accounts.specs.Ledger.{Ledger, ledger, runs}
 use Rattle.ledger.specs.Frame.{Result, frame}
 use Rattle.packing.specs.Packing.{writtenIf}
 use Rattle.framewords.specs.Words as plain
@@ -65,10 +67,9 @@ unread h k m = leftFor (plain.unread h m) (k .running) (k .totals) (k .most) (k 
 unfoldable pub faced : Handed → Ticket → Lent → LeftFor
 faced h k m = cond (isCallFor h k) (told (frame (callOf h) m (k .account) (ledgerOf k))) (unread h k m)
 
--- the report: 255 if there is not just room for three words, else 0, or 9 for an account over 255; the words are written if it is 0
-abbrev pub reportNumber : ℕ → List ℕ → ℕ
-reportNumber account line = cond (eqb (length line) 3) (cond (isAccount account) 0 9) 255
+-- the report, three words: its number, 255 if there is not just room for them; they are written if it is 0
+abbrev pub reportNumber : Reported → List ℕ → ℕ
+reportNumber r line = cond (eqb (length line) 3) (numberOf (r .refusal)) 255
 
-abbrev pub reportWords : ℕ → List ℕ → List ℕ → List ℕ → List ℕ → List ℕ
-reportWords account totals most numbers line =
-    writtenIf (isAccount account && eqb (length line) 3) (getD totals account 0 ∷ getD most account 0 ∷ getD numbers account 0 ∷ []) line
+abbrev pub reportWords : Reported → List ℕ → List ℕ
+reportWords r line = writtenIf (eqb (numberOf (r .refusal)) 0 && eqb (length line) 3) (r .total ∷ r .most ∷ r .number ∷ []) line

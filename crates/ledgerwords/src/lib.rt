@@ -20,6 +20,7 @@ ghost use lib.ListN.{length};
 ghost use Rattle.part.specs.Frame.{lent};
 ghost use Rattle.packing.specs.Packing.{writtenIf};
 ghost use Rattle.framewords.specs.Words.{handed, left, callOf};
+ghost use Rattle.accounts.specs.Ledger.{reported};
 ghost use Rattle.ledger.specs.Frame as through;
 ghost use Rattle.ledgerwords.specs.Words as words;
 
@@ -157,10 +158,12 @@ pub fn report<'a>(
     account: u64,
     line: &mut [u64],
 ) -> u64
-    ensures { λ r. ⌜ r ≡ words.reportNumber account (now (line .entry)) ⌝ }
+    ensures { λ r. ⌜
+        r ≡ words.reportNumber (reported account (now (totals .entry)) (now (most .entry)) (now (numbers .entry))) (now (line .entry))
+        ⌝ }
     ensures { λ _. ⌜
         now (line .exit) ≡
-        words.reportWords account (now (totals .entry)) (now (most .entry)) (now (numbers .entry)) (now (line .entry))
+        words.reportWords (reported account (now (totals .entry)) (now (most .entry)) (now (numbers .entry))) (now (line .entry))
         ⌝ }
 {
     if line.len() != 3 {

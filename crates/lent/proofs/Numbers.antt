@@ -1,8 +1,9 @@
 -- A refusal's number tells which refusal it is, so that a contract that gives the number gives the refusal; and each number that a call
--- can be given is that of a refusal. Assumes nothing.
-use Prim.Native.Nat.{ℕ}
+-- can be given is that of a refusal, and at most 8. Assumes nothing.
+use Prim.Native.Nat.{ℕ, _≤_}
 use mathlib.Core.Bool.{Bool, true, false, cond, not}
 use mathlib.Core.Path.{_≡_, refl, sym, ap, _∙_}
+use native.Mathlib.Omega.{arith}
 use lib.Dec.{ltb, eqb}
 use Rattle.sheet.specs.declared.device.Device.{Device}
 use Rattle.settings.specs.declared.Settings.{Settings}
@@ -46,6 +47,23 @@ back Refusal.Account = refl
 
 pub number-tells : (a b : Refusal) → numberOf a ≡ numberOf b → a ≡ b
 number-tells = tells numberOf refusalAt back
+
+pub at-most-8 : (d : Device) (s : Settings) (bits pace : ℕ) (lengths : Lengths) → refusalOf d s bits pace lengths ≤ 8
+unfolding refusalOf
+at-most-8 d s bits pace lengths =
+    by (not (isArray (lengths .array))) (not (isRegister (lengths .register))) (ltb 8192 (lengths .input)) (not (eqb (bytesFor bits) (lengths .input)))
+    (ltb (lengths .output) (lengths .input)) (unsound d) (anyUnfair (s .ticks)) (ltb 1000 pace)
+  where
+    by : (a b c e f g h i : Bool) → cond a 1 (cond b 2 (cond c 3 (cond e 4 (cond f 5 (cond g 6 (cond h 7 (cond i 8 0))))))) ≤ 8
+    by true b c e f g h i = omega arith
+    by false true c e f g h i = omega arith
+    by false false true e f g h i = omega arith
+    by false false false true f g h i = omega arith
+    by false false false false true g h i = omega arith
+    by false false false false false true h i = omega arith
+    by false false false false false false true i = omega arith
+    by false false false false false false false true = omega arith
+    by false false false false false false false false = omega arith
 
 pub has-refusal : (d : Device) (s : Settings) (bits pace : ℕ) (lengths : Lengths)
     → numberOf (refusalAt (refusalOf d s bits pace lengths)) ≡ refusalOf d s bits pace lengths

@@ -9,6 +9,7 @@ use Rattle.part.specs.Frame.{Lent, frame}
 use Rattle.packing.specs.Packing.{packed, isRecord, deviceOf, isSettings, settingsOf}
 use Rattle.framewords.specs.Words.{Handed, isCall, callOf, left, told, faced}
 use Rattle.hexwords.specs.Words.{textOut, textIn}
+use Rattle.accounts.specs.declared.Reported.{Reported}
 use Rattle.accounts.specs.declared.Running.{Running}
 use Rattle.ledgerwords.specs.Words.{Ticket, isRunning, runningOf, runningWords, isCallFor, unread, reportNumber, reportWords}
 use Rattle.ledgerwords.specs.Words as ledger
@@ -36,6 +37,6 @@ pub record Promises : Type 0 where
       → (ledger.faced h k m .frame .device ≡ h .device) × (ledger.faced h k m .frame .lent ≡ m) × (ledger.faced h k m .running ≡ k .running) × (ledger.faced h k m .totals ≡ k .totals)
       × (ledger.faced h k m .most ≡ k .most) × (ledger.faced h k m .numbers ≡ k .numbers)
   -- a report that is refused writes nothing
-  pub report-kept : (account : ℕ) (totals most numbers line : List ℕ) → reportNumber account line ≢ 0 → reportWords account totals most numbers line ≡ line
+  pub report-kept : (r : Reported) (line : List ℕ) → reportNumber r line ≢ 0 → reportWords r line ≡ line
   -- the running operation that comes back as words is the one that goes in with them
   pub same-running : (r : Running) → (isRunning (runningWords r) ≡ true) × (runningOf (runningWords r) ≡ r)

@@ -20,6 +20,7 @@ use status::status_two;
 ghost use mathlib.Core.Path.{_≡_};
 ghost use lib.ListN.{length};
 ghost use Rattle.part.specs.Frame.{lent};
+ghost use Rattle.accounts.specs.Ledger.{reported};
 ghost use Rattle.framewords.specs.Words as words;
 ghost use Rattle.ledgerwords.specs.Words as ledger;
 ghost use Rattle.oxterin.specs.Face as face;
@@ -183,10 +184,12 @@ pub extern "C" fn oxterin_report<'a>(
     account: u64,
     line: &mut [u64],
 ) -> u64
-    ensures { λ r. ⌜ r ≡ ledger.reportNumber account (now (line .entry)) ⌝ }
+    ensures { λ r. ⌜
+        r ≡ ledger.reportNumber (reported account (now (totals .entry)) (now (most .entry)) (now (numbers .entry))) (now (line .entry))
+        ⌝ }
     ensures { λ _. ⌜
         now (line .exit) ≡
-        ledger.reportWords account (now (totals .entry)) (now (most .entry)) (now (numbers .entry)) (now (line .entry))
+        ledger.reportWords (reported account (now (totals .entry)) (now (most .entry)) (now (numbers .entry))) (now (line .entry))
         ⌝ }
 {
     report(totals, most, numbers, account, line)

@@ -1,10 +1,9 @@
 -- The contract of a frame admits one answer, and no other: number and word tell the cases apart. Assumes nothing.
-use Prim.Native.Nat.{ℕ}
+use Prim.Native.Nat.{ℕ, _≤_}
 use Prim.Native.String.{String}
 use mathlib.Core.Bool.{Bool, true, false, cond}
 use mathlib.Core.Logic.{_≢_}
 use mathlib.Core.Path.{_≡_, refl, sym, ap, _∙_}
-use native.Mathlib.Omega.{arith}
 use borrow.Author.Tests.{eqb-true, ne-eqb}
 use lib.Dec.{eqb}
 use lib.Text.{eqt}
@@ -13,6 +12,7 @@ use Rattle.sheet.specs.declared.judge.Outcome.{Outcome}
 use Rattle.lent.specs.declared.refusal.Refusal.{Refusal}
 use Rattle.lent.specs.declared.refusal.Lengths.{Lengths}
 use Rattle.lent.specs.Refusal.{numberOf}
+use Rattle.lent.proofs.Numbers as numbers
 use Rattle.lent.proofs.Numbers.{tells, refusalAt, number-tells, has-refusal}
 use Rattle.part.specs.declared.frame.Answer.{Answer}
 use Rattle.part.specs.Words.{wordOf}
@@ -48,14 +48,17 @@ same-answer a b p q r s t =
     let e : made (a .refusal) (a .outcome) (a .first) (a .driven) (a .device) ≡ made (b .refusal) (b .outcome) (b .first) (b .driven) (b .device) = rw (p, q, r, s, t) in
     e
 
+-- an answer is told by its number and word
+pub same-reply : (a b : Answer) → replyOf a ≡ replyOf b → a ≡ b
+same-reply a b e =
+    same-answer a b (number-tells (a .refusal) (b .refusal) (ap (λ (r : Reply). r .refusal) e)) (word-tells (a .outcome) (b .outcome) (ap (λ (r : Reply). r .outcome) e))
+    (ap (λ (r : Reply). r .first) e) (ap (λ (r : Reply). r .driven) e) (ap (λ (r : Reply). r .device) e)
+
 -- there is no other answer
 pub one-answer : (c : Call) (m : Lent) (a b : Answer) (n o : Lent) → Meets c m a n → Meets c m b o → (a ≡ b) × (n ≡ o)
 one-answer c m a b n o p q =
-    let e : resultOf a n ≡ resultOf b o = p ∙ sym q in (
-      same-answer a b (number-tells (a .refusal) (b .refusal) (ap (λ (r : Result). r .reply .refusal) e)) (word-tells (a .outcome) (b .outcome) (ap (λ (r : Result). r .reply .outcome) e))
-          (ap (λ (r : Result). r .reply .first) e) (ap (λ (r : Result). r .reply .driven) e) (ap (λ (r : Result). r .reply .device) e),
-      ap (λ (r : Result). r .lent) e,
-    )
+    let e : resultOf a n ≡ resultOf b o = p ∙ sym q in
+    (same-reply a b (ap (λ (r : Result). r .reply) e), ap (λ (r : Result). r .lent) e)
 
 -- what comes back carries the number of the call
 pub refusal-is : (c : Call) (lengths : Lengths) → replied c lengths .refusal ≡ numberFor c lengths
@@ -99,18 +102,7 @@ pub refused-leaves : (c : Call) (m : Lent) → frame c m .reply .refusal ≢ 0 �
 unfolding frame replied
 refused-leaves c m n = let e = not-accepted c (lengthsOf c m) n in (rw e, rw e)
 
--- and no refusal has the number 255
-small : (r : Refusal) → numberOf r ≢ 255
-small Refusal.Accepted = λ e. omega arith
-small Refusal.ArrayLength = λ e. omega arith
-small Refusal.RegisterLength = λ e. omega arith
-small Refusal.InputLength = λ e. omega arith
-small Refusal.BitCount = λ e. omega arith
-small Refusal.OutputLength = λ e. omega arith
-small Refusal.Record = λ e. omega arith
-small Refusal.Duration = λ e. omega arith
-small Refusal.Pace = λ e. omega arith
-small Refusal.Account = λ e. omega arith
-
-pub not-255 : (c : Call) (lengths : Lengths) → replied c lengths .refusal ≢ 255
-not-255 c lengths e = small (refusalAt (numberFor c lengths)) (numbered c lengths ∙ (sym (refusal-is c lengths) ∙ e))
+-- no number of the part's is above 8
+pub at-most-8 : (c : Call) (lengths : Lengths) → replied c lengths .refusal ≤ 8
+unfolding numberFor
+at-most-8 c lengths = rw (refusal-is c lengths) (numbers.at-most-8 (c .device) (c .settings) (c .signals .bits) (c .signals .pace) lengths)

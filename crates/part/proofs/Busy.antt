@@ -5,8 +5,8 @@ use mathlib.Core.Path.{_≡_, refl, sym, ap, subst, _∙_}
 use native.Mathlib.Nat.{sub-add-eq}
 use native.Mathlib.Omega.{arith}
 use borrow.Author.Tests.{ltb-false}
-use lib.Dec.{ltb, eqb}
-use lib.Text.{eqt}
+use lib.Dec.{T, ltb, eqb}
+use lib.Text.{eqt, eqt→eq}
 use Rattle.opcodes.specs.declared.Command.{Command}
 use Rattle.opcodes.specs.declared.Command.the-variants.{Orders, Works}
 use Rattle.opcodes.specs.declared.Order.{Order}
@@ -30,7 +30,7 @@ use Rattle.lent.specs.Refusal.{bytesFor}
 use Rattle.part.specs.Words.{wordOf}
 use Rattle.part.specs.Frame.{Call, numberFor, risen, factsOf, judgedOf, answered, refused, replied}
 use Rattle.part.specs.Busy.{isReset, resets, busyAfter}
-use Rattle.part.proofs.Answers.{refusal-is}
+use Rattle.part.proofs.Answers.{word-tells, refusal-is}
 
 -- an operation is begun by a part that was idle at the first bit; whatever else is answered leaves the ticks at the rise, but a reset none
 abbrev Kept : Device → Facts → Judged → Type 0
@@ -105,11 +105,7 @@ module _ (d : Device) (s : Settings) (f : Facts) where
       (λ work e h b. of-work work e h)
 
 is-begun : (o : Outcome) → eqt (wordOf o) "begun" ≡ true → o ≡ Outcome.Begun
-is-begun Outcome.Nothing e = absurd (false≢true e)
-is-begun Outcome.Read e = absurd (false≢true e)
-is-begun Outcome.Control e = absurd (false≢true e)
-is-begun Outcome.Aborted e = absurd (false≢true e)
-is-begun Outcome.Begun e = refl
+is-begun o e = word-tells o Outcome.Begun (eqt→eq (wordOf o) "begun" (subst T (sym e) tt))
 
 module _ (c : Call) (lengths : Lengths) where
   -- a frame begins an operation only if no busy tick was left at its first bit
