@@ -20,8 +20,8 @@
  * Time passes only in ticks that a call brings: those elapsed before its frame, and those that each byte position of the frame takes. Who
  * fills oxterin_signals field by field sets ticks_per_byte too: 0 is a frame that takes no time.
  *
- * Where several accounts share a part, oxterin_send_frame_for and a ledger bill busy time to the account whose frame began it, whoever
- * polls afterwards.
+ * Where several accounts share a part, oxterin_send_frame_for and a ledger bill an operation's busy ticks to the account that began it, no
+ * matter who polls.
  *
  * C11 or C++17; needs nothing but this file and the library.
  */
@@ -97,7 +97,11 @@ typedef struct {
     uint64_t billed;  /* ticks billed for it so far */
 } oxterin_running;
 
-/* A ledger: what each account was billed, and the running operation. */
+/* A ledger: what each account was billed, and the running operation.
+ *
+ * Every frame of a part goes through its ledger: one sent past it (oxterin_send_frame, oxterin_frame), or a changed record, leaves `running`
+ * stale, and the wrong account may pay. A ledger is one part's; who has several parts keeps one ledger each and adds the lines (of `most`,
+ * the largest), or shares the tables and keeps a running part each (oxterin_ledger_frame takes them apart), with one call at a time. */
 typedef struct {
     uint64_t totals[OXTERIN_ACCOUNTS];  /* ticks billed */
     uint64_t most[OXTERIN_ACCOUNTS];    /* the most ticks billed for one operation */
@@ -348,7 +352,7 @@ static inline void oxterin_empty_ledger(oxterin_ledger *ledger) {
 
 /* One chip-select frame as oxterin_send_frame sends it, for an account. The ticks that come off a running operation are billed to the
  * account whose frame began it; an operation that this frame begins is the account's own, and none of this frame's ticks are billed for it.
- * Busy ticks left in the first record are billed to nobody, if the first ledger is empty. A refused call changes no word of the ledger. */
+ * With an empty ledger at first, what the first record has left is nobody's. A refused call changes no word of the ledger. */
 static inline oxterin_refusal oxterin_send_frame_for(uint64_t account, oxterin_ledger *ledger, oxterin_record *record,
                                                      const oxterin_settings *settings, oxterin_signals signals, uint8_t *array,
                                                      size_t array_length, uint8_t *security, size_t security_length,

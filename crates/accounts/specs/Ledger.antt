@@ -37,7 +37,7 @@ nobody = runs 256 0
 abbrev pub empty : Ledger
 empty = ledger (replicate 256 0) (replicate 256 0) (replicate 256 0) nobody
 
--- refusal 9: the account is over 255, or any account's total or number is above this
+-- refusal 9: there is no such account, or one that there is has a total or a number above this
 abbrev pub limit : ℕ
 limit = 9000000000000000000
 

@@ -22,13 +22,13 @@ stops c = resets (c .call) (c .reply)
 abbrev pub ticks : Done → ℕ
 ticks c = ticksOf (c .call .signals)
 
--- the ticks passed in the accepted calls of a list: to the end of the first reset among them, or of the last of them
+-- the ticks that the accepted calls of a list let pass: all of them, or up to the end of the first reset
 unfoldable pub passed : List Done → ℕ
 passed [] = 0
 passed (c ∷ cs) = cond (accepted c) (ticks c + cond (stops c) 0 (passed cs)) (passed cs)
 
--- An operation: who began it, how long it takes, and the ticks passed in accepted calls from its frame's end to the end of the reset that
--- stopped it, or of the latest accepted call.
+-- An operation: who began it, how long it takes, and how many ticks the calls that were accepted after its frame let pass, up to a reset and
+-- with the reset's own.
 pub record Operation : Type 0 where
   pub account : ℕ
   pub duration : ℕ

@@ -53,9 +53,9 @@ pub record Promises : Type 0 where
   pub nine-exactly : (e : Entry) (d : Device) (l : Ledger)
       → (replyTo e d l .refusal ≡ 9 → (numberFor (callOf (e .turn) d) (lengthsOf (e .turn)) ≡ 0) × (shut (e .account) l ≡ true))
       × (numberFor (callOf (e .turn) d) (lengthsOf (e .turn)) ≡ 0 → shut (e .account) l ≡ true → replyTo e d l .refusal ≡ 9)
-  -- From an empty ledger, at any point: an account's total is the sum, over the operations that it began, of the lesser of the duration and
-  -- the ticks passed in accepted calls from the frame's end to the end of the reset that stopped it, or of the latest accepted call. The
-  -- most is the largest of these, and the number is how many they are.
+  -- From an empty ledger, wherever the series is cut off: an account's total is what its own operations are billed together, the most is the
+  -- largest of these bills, and the number says how many there are. The bill of an operation is its duration, or fewer ticks, if accepted
+  -- calls have let fewer pass since its frame, or had when a reset was carried out.
   pub billed-to-the-beginner : (es : List Entry) (d : Device) (account : ℕ) → account < 256
       → (getD (lastLedger es d empty .totals) account 0 ≡ sum (billsIn es d account)) × (getD (lastLedger es d empty .most) account 0 ≡ largest (billsIn es d account))
       × (getD (lastLedger es d empty .numbers) account 0 ≡ length (billsIn es d account))

@@ -23,8 +23,9 @@ says whose frame it is. A bad line or a refused frame is an error that names the
 
 {LINE_HELP}
 A tick for which the part is busy is billed to the account whose frame began the operation, whoever polls afterwards. It
-is counted from the end of that frame to the end of the operation, or of the reset that stops it. The bill has a row for
-each account that began an operation, with a bar in proportion to its total:
+is counted from the end of that frame to the end of the operation, or of the reset that stops it. The bill begins with
+an empty ledger and an idle part, and an operation that still runs at the end of the file is billed up to there. The
+bill has a row for each account that began an operation, with a bar in proportion to its total:
 
   account   total ticks   most for one operation   operations
         7     1,600,012                1,600,000            2   ##############################
@@ -50,7 +51,7 @@ pub fn bill(words: &[String]) -> Result<(), Complaint> {
     let valued = [&PART_VALUED[..], &UNSAID_VALUED, &["--html"]].concat();
     let flags = [&PART_FLAGS[..], &["--csv"]].concat();
     let given = Given::read(words, &valued, &flags)?;
-    let mut tally = Tally::new(part(&given)?);
+    let mut tally = Tally::new(part(&given)?, given.value("--html").is_some());
     let mut frames = Frames::open("bill", &given)?;
     given.value("--html").map_or(Ok(()), |path| check(path, &given))?;
     add_up(&mut tally, &mut frames)?;
@@ -76,15 +77,19 @@ fn add_up(tally: &mut Tally, frames: &mut Frames) -> Result<(), Complaint> {
     Ok(())
 }
 
-/// Whether the page could be saved there, in the place of anything but the file that the frames come from.
+/// Whether the page could be saved there, in the place of anything but the files that the frames and the image come from.
 fn check(path: &str, given: &Given) -> Result<(), Complaint> {
     let out = fs::canonicalize(path).ok();
-    let from = given.words.first().and_then(|word| fs::canonicalize(word).ok());
-    match out.is_some() && out == from {
-        true => Err(complaint(format!(
-            "--html {path}: the frames come from that file; name another, such as {}",
+    let is_out = |from: &str| out.is_some() && fs::canonicalize(from).ok() == out;
+    let sources = [
+        ("the frames come", given.words.first().map(String::as_str)),
+        ("the image comes", given.value("--image")),
+    ];
+    match sources.into_iter().find(|(_, from)| from.is_some_and(is_out)) {
+        Some((words, _)) => Err(complaint(format!(
+            "--html {path}: {words} from that file; name another, such as {}",
             PAGE.such_as
         ))),
-        false => PAGE.check(path),
+        None => PAGE.check(path),
     }
 }

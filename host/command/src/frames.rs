@@ -210,55 +210,72 @@ fn words_of(text: &str) -> Vec<Word<'_>> {
     words
 }
 
-/// The frame of a line, or none if the line has no words.
-fn read(line: &[u8], unsaid: Unsaid) -> Result<Option<Frame>, Fault> {
-    let words = words_of(text_of(line)?);
-    let mut input = Vec::new();
-    let (mut bits, mut elapsed, mut each, mut level, mut named) = (None, None, None, None, None);
-    for word in &words {
+/// What the words of a line say.
+#[derive(Default)]
+struct Said {
+    input: Vec<u8>,
+    bits: Option<u64>,
+    elapsed: Option<u64>,
+    ticks_per_byte: Option<u64>,
+    wp_high: Option<bool>,
+    account: Option<u8>,
+}
+
+impl Said {
+    /// One word more.
+    fn read(&mut self, word: &Word<'_>) -> Result<(), Fault> {
         if let Some(count) = word.text.strip_prefix('/') {
-            let count = number(count).ok_or_else(|| word.fault("behind / stands the number of bits clocked, such as /11"))?;
-            set_once(&mut bits, count, word)?;
+            let remedy = "behind / stands the number of bits clocked, such as /11";
+            set_once(&mut self.bits, number(count), word, remedy)
         } else if let Some(ticks) = word.text.strip_prefix('+') {
             let remedy = "behind + stands the number of ticks elapsed, up to 2^64 - 1, such as +2000";
-            set_once(&mut elapsed, number(ticks).ok_or_else(|| word.fault(remedy))?, word)?;
+            set_once(&mut self.elapsed, number(ticks), word, remedy)
         } else if let Some(ticks) = word.text.strip_prefix('@') {
             let remedy =
                 "behind @ stands, with no blank between, the number of ticks that each byte takes, at most 1,000 (refusal 8), such as @8";
-            set_once(&mut each, byte_ticks(ticks).ok_or_else(|| word.fault(remedy))?, word)?;
+            set_once(&mut self.ticks_per_byte, byte_ticks(ticks), word, remedy)
         } else if let Some(name) = word.text.strip_prefix("wp=") {
-            set_once(
-                &mut level,
-                level_of(name).ok_or_else(|| word.fault("write wp=low or wp=high"))?,
-                word,
-            )?;
+            set_once(&mut self.wp_high, level_of(name), word, "write wp=low or wp=high")
         } else if let Some(account) = word.text.strip_prefix("account=") {
             let remedy = "behind account= stands, with no blank between, whose frame it is, from 0 to 255 (refusal 9), such as account=7";
-            set_once(&mut named, account_of(account).ok_or_else(|| word.fault(remedy))?, word)?;
+            set_once(&mut self.account, account_of(account), word, remedy)
         } else if word.text.contains('=') {
-            return Err(
-                word.fault("of words with = there are wp=low, wp=high and account=, behind which stands a number, such as account=7")
-            );
+            Err(word.fault("of words with = there are wp=low, wp=high and account=, behind which stands a number, such as account=7"))
         } else {
-            input.extend(bytes(word)?);
+            self.input.extend(bytes(word)?);
+            Ok(())
         }
     }
-    let signals = Signals {
-        bits: bits.unwrap_or(8 * input.len() as u64),
-        wp_high: level.unwrap_or(unsaid.wp_high),
-        elapsed: elapsed.unwrap_or(0),
-        ticks_per_byte: each.unwrap_or(unsaid.ticks_per_byte),
-    };
-    let frame = Frame {
-        input,
-        signals,
-        named: named.or(unsaid.account),
-    };
-    Ok((!words.is_empty()).then_some(frame))
+
+    /// The frame, with what holds where the words do not say.
+    fn frame(self, unsaid: Unsaid) -> Frame {
+        let signals = Signals {
+            bits: self.bits.unwrap_or(8 * self.input.len() as u64),
+            wp_high: self.wp_high.unwrap_or(unsaid.wp_high),
+            elapsed: self.elapsed.unwrap_or(0),
+            ticks_per_byte: self.ticks_per_byte.unwrap_or(unsaid.ticks_per_byte),
+        };
+        Frame {
+            input: self.input,
+            signals,
+            named: self.account.or(unsaid.account),
+        }
+    }
 }
 
-/// Sets what a line may say once.
-fn set_once<T>(place: &mut Option<T>, value: T, word: &Word<'_>) -> Result<(), Fault> {
+/// The frame of a line, or none if the line has no words.
+fn read(line: &[u8], unsaid: Unsaid) -> Result<Option<Frame>, Fault> {
+    let words = words_of(text_of(line)?);
+    let mut said = Said::default();
+    for word in &words {
+        said.read(word)?;
+    }
+    Ok((!words.is_empty()).then(|| said.frame(unsaid)))
+}
+
+/// Sets what a line may say once, to the value that the word has; the remedy is for a word that has none.
+fn set_once<T>(place: &mut Option<T>, value: Option<T>, word: &Word<'_>, remedy: &str) -> Result<(), Fault> {
+    let value = value.ok_or_else(|| word.fault(remedy))?;
     match place.replace(value) {
         None => Ok(()),
         Some(_) => Err(word.fault("said twice; leave one out")),
@@ -271,7 +288,7 @@ fn bytes(word: &Word<'_>) -> Result<Vec<u8>, Fault> {
         return Err((
             word.column + at,
             format!(
-                "{}: bytes are pairs of hexadecimal digits; /BITS, +TICKS, @TICKS and wp=low or wp=high may stand beside them",
+                "{}: bytes are pairs of hexadecimal digits; /BITS, +TICKS, @TICKS, wp=low or wp=high and account=N may stand beside them",
                 word.text
             ),
         ));

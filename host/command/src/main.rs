@@ -1,9 +1,9 @@
 //! The command `oxterin`: the proved part for people at a bench.
 #![forbid(unsafe_code)]
 
-mod bench;
 mod bill;
 mod complaint;
+mod desk;
 mod frames;
 mod hex;
 mod hex_fault;
@@ -90,7 +90,7 @@ fn obey(words: &[String]) -> Result<(), Complaint> {
         "serve" => serve::serve(rest),
         "hex" => hex::hex(rest),
         other => Err(complaint(format!(
-            "unknown command {other}; there are session, run, serve and hex, and bill"
+            "unknown command {other}; there are session, run, bill, serve and hex"
         ))),
     }
 }

@@ -1,6 +1,6 @@
 //! `oxterin run`: frames from text, answered line by line.
-use crate::bench::{Bench, Billed};
 use crate::complaint::{complaint, Complaint};
+use crate::desk::{Billed, Desk};
 use crate::frames::{Frame, Frames, LINE_HELP, UNSAID_HELP, UNSAID_VALUED};
 use crate::lines::{answered, counted};
 use crate::options::{part, Given, PART_FLAGS, PART_HELP, PART_VALUED};
@@ -37,27 +37,27 @@ pub fn run(words: &[String]) -> Result<(), Complaint> {
     let valued = [&PART_VALUED[..], &UNSAID_VALUED, &["--save"]].concat();
     let flags = [&PART_FLAGS[..], &["--explain"]].concat();
     let given = Given::read(words, &valued, &flags)?;
-    let mut bench = Bench::new(part(&given)?);
+    let mut desk = Desk::new(part(&given)?);
     let mut frames = Frames::open("run", &given)?;
     given.value("--save").map_or(Ok(()), image::check)?;
     let mut accounts = false;
     while let Some(next) = frames.next() {
         let (_, frame) = next?;
-        let sent = bench.send(&frame).map_err(|words| refused(&frames.place(), &words))?;
+        let sent = desk.send(&frame).map_err(|words| refused(&frames.place(), &words))?;
         accounts |= frame.named.is_some();
-        let line = answered(&frame.input, &sent.exchange.output, bench.part.status(frame.signals.wp_high)[0]);
+        let line = answered(&frame.input, &sent.exchange.output, desk.part.status(frame.signals.wp_high)[0]);
         let more = match given.has("--explain") {
             true => explained(
                 &frame,
                 &sent.exchange.answer,
-                bench.part.record.busy,
+                desk.part.record.busy,
                 sent.billed.filter(|_| accounts),
             ),
             false => String::new(),
         };
         say(&format!("{line}{more}\n"))?;
     }
-    given.value("--save").map_or(Ok(()), |path| image::keep(path, bench.part.array()))
+    given.value("--save").map_or(Ok(()), |path| image::keep(path, desk.part.array()))
 }
 
 /// The complaint of a refused frame.

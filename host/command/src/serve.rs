@@ -32,7 +32,8 @@ bytes with flashrom 1.4 or later, and for one of 65,536 bytes:
 
 Clients are served one after the other, and each finds the part as the one before left it. One SPI
 operation (13h) is one chip-select frame: the bytes sent, then a zero for each byte to be read. A frame
-has at most 8,192 bytes; a longer one is answered with NAK.
+has at most 8,192 bytes; a longer one is answered with NAK. Frames are billed to nobody: the server keeps
+no ledger.
 
 Time passes by the clients' delays (0Eh, carried out by 0Fh): their microseconds are the ticks that elapse
 before the next frame, and nobody sleeps. Unless bytes take ticks, a client that waits for the end of an

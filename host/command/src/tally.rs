@@ -1,5 +1,5 @@
 //! What came of a run of frames: the operations begun, what each was billed and to whom, and who sent frames while it ran.
-use crate::bench::Bench;
+use crate::desk::Desk;
 use crate::frames::Frame;
 use crate::lines::counted;
 use oxterin::{Line, Outcome, Part};
@@ -10,12 +10,14 @@ const STATUS_READ: u8 = 0x05;
 
 /// A run of frames, as far as it has come.
 pub struct Tally {
-    bench: Bench,
+    desk: Desk,
     /// How many frames were sent.
     pub frames: u64,
     /// How many ticks passed, before the frames and with their bytes.
     pub passed: u128,
-    /// What was begun, in the order of the frames.
+    /// Whether all operations are kept.
+    keeps_all: bool,
+    /// What was begun, in the order of the frames; the last alone unless all are kept.
     pub operations: Vec<Operation>,
 }
 
@@ -73,21 +75,22 @@ pub struct All {
 }
 
 impl Tally {
-    /// No frame has been sent to this part.
-    pub fn new(part: Part) -> Tally {
+    /// No frame has been sent to this part. All operations are kept if a page is to list them, and else the last alone.
+    pub fn new(part: Part, keeps_all: bool) -> Tally {
         Tally {
-            bench: Bench::new(part),
+            desk: Desk::new(part),
             frames: 0,
             passed: 0,
+            keeps_all,
             operations: Vec::new(),
         }
     }
 
     /// Sends the frame of a line. If it is refused nothing changes, and the words say why.
     pub fn send(&mut self, line: usize, frame: &Frame) -> Result<(), String> {
-        let found_busy = self.bench.part.record.busy > frame.signals.elapsed;
-        let sent = self.bench.send(frame)?;
-        let left = self.bench.part.record.busy;
+        let found_busy = self.desk.part.record.busy > frame.signals.elapsed;
+        let sent = self.desk.send(frame)?;
+        let left = self.desk.part.record.busy;
         let begins = sent.exchange.answer.outcome == Outcome::Begun;
         self.frames += 1;
         self.passed += u128::from(frame.signals.elapsed) + u128::from(frame.signals.frame_ticks());
@@ -101,6 +104,9 @@ impl Tally {
             }
         }
         if begins {
+            if !self.keeps_all {
+                self.operations.clear();
+            }
             self.operations.push(Operation::begun(line, frame, self.passed, left));
         }
         Ok(())
@@ -108,7 +114,7 @@ impl Tally {
 
     /// The accounts that began an operation or were billed anything, with their lines of the ledger.
     pub fn accounts(&self) -> Vec<(u8, Line)> {
-        let lines = self.bench.ledger.lines();
+        let lines = self.desk.ledger.lines();
         lines.filter(|(_, line)| line.number > 0 || line.total > 0).collect()
     }
 
@@ -198,9 +204,14 @@ mod tests {
     use super::*;
     use oxterin::{Signals, Size};
 
-    /// Sends frames in lines 1, 2 and so on: whose, its bytes, the ticks elapsed before it.
+    /// Sends frames in lines 1, 2 and so on: whose, its bytes, the ticks elapsed before it. All operations are kept.
     fn tally(frames: &[(u8, &[u8], u64)]) -> Tally {
-        let mut tally = Tally::new(Part::blank(Size::Small));
+        sent(frames, true)
+    }
+
+    /// The same, with all operations kept or the last alone.
+    fn sent(frames: &[(u8, &[u8], u64)], keeps_all: bool) -> Tally {
+        let mut tally = Tally::new(Part::blank(Size::Small), keeps_all);
         for (line, (account, input, elapsed)) in frames.iter().enumerate() {
             let signals = Signals {
                 elapsed: *elapsed,
@@ -258,6 +269,22 @@ mod tests {
         let ignored = Meanwhile { polls: 0, others: 1 };
         assert_eq!(erase.meanwhile, BTreeMap::from([(7, ignored), (12, poll)]));
         assert_eq!((late.frames, late.passed), (5, 50_015));
+    }
+
+    #[test]
+    fn the_last_operation_alone_is_kept_unless_all_are() {
+        let frames: [(u8, &[u8], u64); 5] = [
+            (7, &[0x06], 0),
+            (7, &[0x20, 0, 0, 0], 0),
+            (12, &[0x06], 50_000),
+            (12, &[0x81, 0, 0, 0], 0),
+            (7, &[0x05, 0], 6_999),
+        ];
+        let (all, last) = (sent(&frames, true), sent(&frames, false));
+        assert_eq!((all.operations.len(), last.operations.len()), (2, 1));
+        assert_eq!((all.accounts(), all.all()), (last.accounts(), last.all()));
+        let erase = &last.operations[0];
+        assert_eq!((erase.account, erase.line, erase.billed, erase.end), (12, 4, 6_999, End::Running));
     }
 
     #[test]

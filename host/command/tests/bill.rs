@@ -117,6 +117,7 @@ fn a_saturday_without_the_latch_costs_nothing_and_changes_nothing() {
     let (before, after) = (folder.join("before.bin"), folder.join("after.bin"));
     let answers = says(&["run", &frames, "--save", word(&after)], "");
     assert!(fs::read(&after).expect("saved") == vec![0xFF; 131_072]);
+    assert_eq!(answers.lines().count(), 600);
     assert!(answers.lines().all(|line| line == "C7 > FF ST 10" || line == "05 00 > FF 10 ST 10"));
     let image: Vec<u8> = (0..131_072u32).map(|k| (k.wrapping_mul(0x9E37_79B1) >> 24) as u8).collect();
     fs::write(&before, &image).expect("written");
@@ -142,9 +143,6 @@ fn a_saturday_with_the_latch_is_billed_to_the_one_who_began_it() {
         says(&["bill", &frames, "--csv"], ""),
         "account,total,most,operations\n7,38400000,1600000,24\n"
     );
-    for name in ["saturday-unlatched.frames", "saturday-latched.frames"] {
-        assert!(fs::metadata(example(name)).expect("the example").len() < 60_000, "{name}");
-    }
 }
 
 /// Account 12's frame 06 in line 7 comes a tick before the erase ends and is ignored; line 9's is heard. The program in line 13 loses 3
@@ -364,7 +362,7 @@ fn wrong_words_are_complained_of_with_a_remedy() {
         (&["bill", "--html", "/dev/null"], "not a plain file, so no page is saved there"),
         (&["bill", "--html", "."], "name a file"),
         (&["bill", "--html", ""], "so no page is saved there; name a file, such as bill.html"),
-        (&["bills"], " and bill"),
+        (&["bills"], "there are session, run, bill, serve and hex"),
     ] {
         let complaint = complaint(words, "06\n");
         assert!(complaint.contains(remedy), "{words:?}: {complaint}");
@@ -383,6 +381,21 @@ fn a_page_never_takes_the_place_of_its_frames() {
         "{complaint}"
     );
     assert_eq!(fs::read_to_string(&frames).expect("there"), long_day());
+}
+
+#[test]
+fn a_page_never_takes_the_place_of_its_image() {
+    let folder = folder("image");
+    let image = folder.join("image.bin");
+    fs::write(&image, [0xA5; 65_536]).expect("written");
+    let out = folder.join("..").join("image").join("image.bin");
+    let complaint = complaint(&["bill", "--image", word(&image), "--html", word(&out)], &long_day());
+    assert!(
+        complaint.ends_with("the image comes from that file; name another, such as bill.html"),
+        "{complaint}"
+    );
+    assert!(fs::read(&image).expect("there") == [0xA5; 65_536]);
+    assert_eq!(files(&folder), ["image.bin"]);
 }
 
 #[cfg(unix)]

@@ -174,7 +174,7 @@ fn a_bad_line_names_its_place_and_saves_nothing() {
     assert_eq!(
         complained(&output),
         "oxterin: standard input, line 2, column 11: 0O: bytes are pairs of hexadecimal digits; \
-         /BITS, +TICKS, @TICKS and wp=low or wp=high may stand beside them\n"
+         /BITS, +TICKS, @TICKS, wp=low or wp=high and account=N may stand beside them\n"
     );
     assert_eq!(said(&output), "06 > FF ST 12\n");
     assert!(!after.exists());
@@ -191,7 +191,7 @@ fn a_refused_frame_ends_the_run() {
 #[test]
 fn wrong_words_are_complained_of_with_a_remedy() {
     for (words, remedy) in [
-        (&["rum"][..], "there are session, run, serve and hex"),
+        (&["rum"][..], "there are session, run, bill, serve and hex"),
         (&["session", "now"], "takes nothing"),
         (&["run", "--sise", "1"], "--help"),
         (&["run", "--size"], "wants a value"),
@@ -216,7 +216,14 @@ fn wrong_words_are_complained_of_with_a_remedy() {
 
 #[test]
 fn help_and_version() {
-    for words in [&["--help"][..], &["session", "--help"], &["run", "--help"], &["serve", "--help"]] {
+    for words in [
+        &["--help"][..],
+        &["session", "--help"],
+        &["run", "--help"],
+        &["bill", "--help"],
+        &["serve", "--help"],
+        &["hex", "--help"],
+    ] {
         let output = oxterin(words, "");
         assert!(output.status.success() && said(&output).contains("Usage: oxterin"), "{words:?}");
     }

@@ -1,5 +1,5 @@
-//! The ledger of request R-4: busy time is billed to the account whose frame
-//! began it, whoever polls afterwards.
+//! The ledger of request R-4: who begins an operation pays for its busy time,
+//! no matter who polls.
 //!
 //! The books keep a time line of the ticks passed in accepted calls, and on it
 //! the operations, each from the end of the frame that began it. Nothing is

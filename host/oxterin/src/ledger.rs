@@ -1,4 +1,4 @@
-//! A ledger beside a part: busy time is billed to the account whose frame began it, whoever polls afterwards.
+//! A ledger beside a part: who begins an operation pays for its busy ticks, no matter who polls.
 use crate::frame::{on_words, Answer, Refusal, Signals};
 use crate::raw;
 use crate::record::{Record, Settings};
@@ -34,6 +34,9 @@ impl Running {
 ///
 /// It is plain data. Every value may be handed to a frame; a total or a number of operations above [`Ledger::LIMIT`] is refused
 /// ([`Refusal::Account`]).
+///
+/// Every frame of a part goes through its ledger: one sent past it (`send`, `frame`), or a changed record, leaves `running` stale, and the
+/// wrong account may pay. A ledger is one part's; who has several parts keeps one ledger each and adds the lines (of `most`, the largest).
 #[derive(Clone, Debug, PartialEq, Eq)]
 pub struct Ledger {
     /// The ticks billed to each account.
@@ -124,7 +127,7 @@ pub struct Line {
 
 /// One chip-select frame as [`crate::frame`] carries it out, for an account. The ticks that come off a running operation are billed to the
 /// account whose frame began it; an operation that this frame begins is the account's own, and none of this frame's ticks are billed for
-/// it. Busy ticks left in the first record are billed to nobody, if the first ledger is empty.
+/// it. With an empty ledger at first, what the first record has left is nobody's.
 ///
 /// # Errors
 ///

@@ -1,6 +1,6 @@
 //! A simulated AT25XE011, over a library whose every function is proved to answer as the data sheet's rules say.
 //!
-//! [`Part`] owns its memories; [`frame`] works on memories that you lend; a [`Ledger`] bills busy time to the account whose frame began it;
+//! [`Part`] owns its memories; [`frame`] works on memories that you lend; a [`Ledger`] bills busy ticks to whoever began the operation;
 //! [`hex_text`] and [`hex_read`] turn an array into Intel HEX text and back; [`raw`] is the face that C programs see, words and bytes.
 //! Time passes only as the caller says, in ticks that come with each frame: those elapsed before it, and those that each of its byte
 //! positions takes ([`Signals::with_ticks_per_byte`]).
@@ -20,7 +20,9 @@
 //! # Ok::<(), oxterin::Refusal>(())
 //! ```
 //!
-//! Where several accounts share a part, their frames go through a ledger:
+//! Where several accounts share a part, every frame of it goes through its ledger: one sent past it ([`Part::send`], [`Part::frame`],
+//! [`frame`]), or a changed record, leaves [`Ledger::running`] stale. A ledger is one part's; who has several parts keeps one ledger each
+//! and adds the lines.
 //!
 //! ```
 //! use oxterin::{Ledger, Line, Part, Signals, Size};

@@ -211,7 +211,7 @@ fn modelled(case: &Case) -> Box<dyn FnMut(u64)> {
     })
 }
 
-/// A frame by words, bare and through a ledger in which account 7's operation runs.
+/// A frame by words, bare and through a ledger whose words say that an operation of account 7 runs.
 fn bare_and_billed(case: &Billed) -> [Contender; 2] {
     let mut ledger = Box::new(Ledger::empty());
     let bare = by_words(case, |words, settings, signals, [array, register, output], input, answer| {
@@ -307,8 +307,9 @@ fn print_conditions() {
     println!(
         "The second table is of the same run: frames by words, bare (oxterin_frame) and through a ledger (oxterin_ledger_frame). A tick"
     );
-    println!("elapses before each, and each finds an operation of another account running in a ledger that is warmed up and not cleared.");
-    println!("There the status reads are handed 32,768 busy ticks, of which the one that elapses is billed.");
+    println!("elapses before each, and the ledger is warmed up and not cleared. There the status reads are handed 32,768 busy ticks of an");
+    println!("operation of another account, to which the one that elapses is billed. For write enable and program the part is idle, and");
+    println!("only the ledger's words name another account.");
     println!();
 }
 

@@ -3,7 +3,7 @@ use crate::frames::Frame;
 use oxterin::{Exchange, Ledger, Part};
 
 /// A part and its ledger.
-pub struct Bench {
+pub struct Desk {
     /// The part.
     pub part: Part,
     /// Who began what, and what it cost; empty at first.
@@ -27,10 +27,10 @@ pub struct Billed {
     pub ticks: u64,
 }
 
-impl Bench {
+impl Desk {
     /// This part with an empty ledger.
-    pub fn new(part: Part) -> Bench {
-        Bench {
+    pub fn new(part: Part) -> Desk {
+        Desk {
             part,
             ledger: Ledger::empty(),
         }
