@@ -1,6 +1,10 @@
 pub mod Tables
 pub mod Entries
 pub mod Steps
+pub mod Folds
+pub mod Totals
+pub mod Most
+pub mod Together
 pub mod Bills
 pub mod Polls
 pub mod Memories
