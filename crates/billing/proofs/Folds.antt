@@ -13,7 +13,7 @@ use Rattle.sheet.specs.declared.device.Device.{Device}
 use Rattle.accounts.specs.declared.Running.{Running}
 use Rattle.accounts.specs.Ledger.{Ledger, isAccount, runs, nobody, at, paid}
 use Rattle.billing.specs.Entries.{Entry, Done, replyTo, ledgerBy, doneOf, calls, lastLedger}
-use Rattle.billing.specs.Operations.{stops, ticks, sum}
+use Rattle.billing.specs.Operations.{stops, ticks}
 use Rattle.billing.proofs.Tables.{length-at, entry-at}
 use Rattle.billing.proofs.Steps.{Stepped, billed, stepped}
 

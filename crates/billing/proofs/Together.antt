@@ -9,11 +9,11 @@ use borrow.Author.Tests.{lt-ltb, ne-eqb}
 use lib.Dec.{eqb}
 use Rattle.sheet.specs.declared.device.Device.{Device}
 use Rattle.accounts.specs.declared.Running.{Running}
-use Rattle.accounts.specs.Ledger.{Ledger, isAccount, runs, nobody, at, paid}
+use Rattle.accounts.specs.Ledger.{Ledger, isAccount, nobody, at, paid}
 use Rattle.billing.specs.Entries.{Entry, Done, calls, lastLedger}
 use Rattle.billing.specs.Operations.{stops, ticks, passed, sum, busyTicks}
 use Rattle.billing.proofs.Tables.{sum-at}
-use Rattle.billing.proofs.Steps.{Stepped, billed}
+use Rattle.billing.proofs.Steps.{Stepped}
 use Rattle.billing.proofs.Folds.{Whole, Right, paid-account, off-then, in-the-end}
 
 -- What is left of the first record's ticks to pass, if nobody's operation is running.

@@ -12,7 +12,7 @@ use lib.ListN.{length, getD}
 use Rattle.sheet.specs.declared.device.Device.{Device}
 use Rattle.part.specs.Busy.{lastsFor}
 use Rattle.accounts.specs.declared.Running.{Running}
-use Rattle.accounts.specs.Ledger.{Ledger, runs, nobody, paid}
+use Rattle.accounts.specs.Ledger.{Ledger, nobody, paid}
 use Rattle.billing.specs.Entries.{Entry, Done, calls, lastLedger}
 use Rattle.billing.specs.Operations.{stops, ticks, passed, operations, bills, sum}
 use Rattle.billing.proofs.Tables.{entry-at}

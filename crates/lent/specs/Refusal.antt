@@ -1,7 +1,7 @@
 -- The refusals: their numbers, and when each is given. They see lengths, the record, the settings, the bits clocked and the ticks per byte
 -- position, and never a byte that is lent. Assumes nothing.
 use Prim.Native.Nat.{ℕ, _+_, _/_}
-use mathlib.Core.Bool.{Bool, cond, not}
+use mathlib.Core.Bool.{cond, not}
 use lib.Dec.{ltb, eqb}
 use Rattle.sizes.specs.Sizes.{isArray, isRegister}
 use Rattle.sheet.specs.declared.device.Device.{Device}
