@@ -48,39 +48,30 @@ back Refusal.Account = refl
 pub number-tells : (a b : Refusal) → numberOf a ≡ numberOf b → a ≡ b
 number-tells = tells numberOf refusalAt back
 
-pub at-most-8 : (d : Device) (s : Settings) (bits pace : ℕ) (lengths : Lengths) → refusalOf d s bits pace lengths ≤ 8
-unfolding refusalOf
-at-most-8 d s bits pace lengths =
-    by (not (isArray (lengths .array))) (not (isRegister (lengths .register))) (ltb 8192 (lengths .input)) (not (eqb (bytesFor bits) (lengths .input)))
-    (ltb (lengths .output) (lengths .input)) (unsound d) (anyUnfair (s .ticks)) (ltb 1000 pace)
-  where
-    by : (a b c e f g h i : Bool) → cond a 1 (cond b 2 (cond c 3 (cond e 4 (cond f 5 (cond g 6 (cond h 7 (cond i 8 0))))))) ≤ 8
-    by true b c e f g h i = omega arith
-    by false true c e f g h i = omega arith
-    by false false true e f g h i = omega arith
-    by false false false true f g h i = omega arith
-    by false false false false true g h i = omega arith
-    by false false false false false true h i = omega arith
-    by false false false false false false true i = omega arith
-    by false false false false false false false true = omega arith
-    by false false false false false false false false = omega arith
+-- what holds of 0 and of the numbers from 1 to 8 holds of every call's
+module _ (d : Device) (s : Settings) (bits pace : ℕ) (lengths : Lengths) where
+  each-number : (P : ℕ → Type 0) → P 0 → P 1 → P 2 → P 3 → P 4 → P 5 → P 6 → P 7 → P 8 → P (refusalOf d s bits pace lengths)
+  unfolding refusalOf
+  each-number P none one two three four five six seven eight =
+      by (not (isArray (lengths .array))) (not (isRegister (lengths .register))) (ltb 8192 (lengths .input)) (not (eqb (bytesFor bits) (lengths .input)))
+      (ltb (lengths .output) (lengths .input)) (unsound d) (anyUnfair (s .ticks)) (ltb 1000 pace)
+    where
+      by : (a b c e f g h i : Bool) → P (cond a 1 (cond b 2 (cond c 3 (cond e 4 (cond f 5 (cond g 6 (cond h 7 (cond i 8 0))))))))
+      by true b c e f g h i = one
+      by false true c e f g h i = two
+      by false false true e f g h i = three
+      by false false false true f g h i = four
+      by false false false false true g h i = five
+      by false false false false false true h i = six
+      by false false false false false false true i = seven
+      by false false false false false false false true = eight
+      by false false false false false false false false = none
 
-pub has-refusal : (d : Device) (s : Settings) (bits pace : ℕ) (lengths : Lengths)
-    → numberOf (refusalAt (refusalOf d s bits pace lengths)) ≡ refusalOf d s bits pace lengths
-unfolding refusalAt refusalOf
-has-refusal d s bits pace lengths =
-    by (not (isArray (lengths .array))) (not (isRegister (lengths .register))) (ltb 8192 (lengths .input)) (not (eqb (bytesFor bits) (lengths .input)))
-    (ltb (lengths .output) (lengths .input)) (unsound d) (anyUnfair (s .ticks)) (ltb 1000 pace)
-  where
-    by : (a b c e f g h i : Bool)
-        → numberOf (refusalAt (cond a 1 (cond b 2 (cond c 3 (cond e 4 (cond f 5 (cond g 6 (cond h 7 (cond i 8 0)))))))))
-        ≡ cond a 1 (cond b 2 (cond c 3 (cond e 4 (cond f 5 (cond g 6 (cond h 7 (cond i 8 0)))))))
-    by true b c e f g h i = refl
-    by false true c e f g h i = refl
-    by false false true e f g h i = refl
-    by false false false true f g h i = refl
-    by false false false false true g h i = refl
-    by false false false false false true h i = refl
-    by false false false false false false true i = refl
-    by false false false false false false false true = refl
-    by false false false false false false false false = refl
+  pub has-refusal : numberOf (refusalAt (refusalOf d s bits pace lengths)) ≡ refusalOf d s bits pace lengths
+  unfolding refusalAt
+  has-refusal = each-number (λ (n : ℕ). numberOf (refusalAt n) ≡ n) refl refl refl refl refl refl refl refl refl
+
+  pub at-most-8 : refusalOf d s bits pace lengths ≤ 8
+  at-most-8 =
+      each-number (λ (n : ℕ). n ≤ 8) (omega arith) (omega arith) (omega arith) (omega arith) (omega arith) (omega arith) (omega arith) (omega arith)
+      (omega arith)

@@ -1,54 +1,18 @@
 //! `oxterin bill`, and accounts in `oxterin run`, as their user sees them: who is billed for what, in a table, in numbers and on a page.
-use std::fs;
-use std::io::Write;
-use std::path::{Path, PathBuf};
-use std::process::{Command, Output, Stdio};
+mod common;
 
-/// Runs the command with these words, and this text on standard input.
-fn oxterin(words: &[&str], input: &str) -> Output {
-    let mut child = Command::new(env!("CARGO_BIN_EXE_oxterin"))
-        .args(words)
-        .stdin(Stdio::piped())
-        .stdout(Stdio::piped())
-        .stderr(Stdio::piped())
-        .spawn()
-        .expect("the command starts");
-    // A command that complains before it reads leaves its input unread.
-    let _ = child.stdin.take().expect("standard input").write_all(input.as_bytes());
-    child.wait_with_output().expect("the command ends")
-}
+use common::{complaint, oxterin, word};
+use std::fs;
+use std::path::{Path, PathBuf};
 
 /// Runs the command, which has to end well and complain of nothing: what it says.
 fn says(words: &[&str], input: &str) -> String {
-    let output = oxterin(words, input);
-    let complaint = String::from_utf8_lossy(&output.stderr);
-    assert!(output.status.success() && complaint.is_empty(), "{words:?}: {complaint}");
-    String::from_utf8(output.stdout).expect("text")
-}
-
-/// Runs the command, which has to fail and write nothing on standard output: what it complains of.
-fn complaint(words: &[&str], input: &str) -> String {
-    let output = oxterin(words, input);
-    assert_eq!(output.status.code(), Some(2), "{words:?}");
-    assert_eq!(output.stdout, b"", "{words:?}");
-    let complaint = String::from_utf8(output.stderr).expect("text");
-    let words = complaint.strip_prefix("oxterin: ").and_then(|words| words.strip_suffix('\n'));
-    words
-        .expect("a complaint is a line that begins with the command's name")
-        .to_string()
+    String::from_utf8(common::says(words, input)).expect("text")
 }
 
 /// An empty folder for a test's files.
 fn folder(name: &str) -> PathBuf {
-    let folder = Path::new(env!("CARGO_TARGET_TMPDIR")).join("bill").join(name);
-    let _ = fs::remove_dir_all(&folder);
-    fs::create_dir_all(&folder).expect("a folder");
-    folder
-}
-
-/// A path as a word of the command line.
-fn word(path: &Path) -> &str {
-    path.to_str().expect("the path is text")
+    common::folder("bill", name)
 }
 
 /// The names of a folder's files.
@@ -389,7 +353,7 @@ fn a_page_never_takes_the_place_of_its_image() {
     let image = folder.join("image.bin");
     fs::write(&image, [0xA5; 65_536]).expect("written");
     let out = folder.join("..").join("image").join("image.bin");
-    let complaint = complaint(&["bill", "--image", word(&image), "--html", word(&out)], &long_day());
+    let complaint = complaint(&["bill", "--image", word(&image), "--html", word(&out)], long_day());
     assert!(
         complaint.ends_with("the image comes from that file; name another, such as bill.html"),
         "{complaint}"
@@ -407,7 +371,7 @@ fn a_page_that_cannot_be_written_leaves_nothing_behind() {
     symlink(&circle, &circle).expect("linked");
     fs::write(folder.join("file"), "old").expect("written");
     for out in [&circle, &below, &folder] {
-        complaint(&["bill", "--html", word(out)], &long_day());
+        complaint(&["bill", "--html", word(out)], long_day());
     }
     assert_eq!(files(&folder), ["circle.html", "file"]);
     assert_eq!(fs::read_to_string(folder.join("file")).expect("there"), "old");

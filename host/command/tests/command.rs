@@ -1,22 +1,10 @@
 //! The command as its user sees it: what it writes where, and how it ends.
-use std::fs;
-use std::io::Write;
-use std::path::{Path, PathBuf};
-use std::process::{Command, Output, Stdio};
+mod common;
 
-/// Runs the command with these words, and this text on standard input.
-fn oxterin(words: &[&str], input: &str) -> Output {
-    let mut child = Command::new(env!("CARGO_BIN_EXE_oxterin"))
-        .args(words)
-        .stdin(Stdio::piped())
-        .stdout(Stdio::piped())
-        .stderr(Stdio::piped())
-        .spawn()
-        .expect("the command starts");
-    // A command that complains before it reads leaves its input unread.
-    let _ = child.stdin.take().expect("standard input").write_all(input.as_bytes());
-    child.wait_with_output().expect("the command ends")
-}
+use common::{oxterin, word};
+use std::fs;
+use std::path::{Path, PathBuf};
+use std::process::{Command, Output};
 
 fn said(output: &Output) -> &str {
     std::str::from_utf8(&output.stdout).expect("text")
@@ -32,10 +20,6 @@ fn scratch(name: &str) -> PathBuf {
     let path = Path::new(env!("CARGO_TARGET_TMPDIR")).join(name);
     let _ = fs::remove_file(&path);
     path
-}
-
-fn text(path: &Path) -> &str {
-    path.to_str().expect("a plain name")
 }
 
 #[test]
@@ -132,7 +116,7 @@ fn images_are_loaded_and_saved_whole() {
     let (before, after) = (scratch("before.bin"), scratch("after.bin"));
     let image: Vec<u8> = (0..65_536u32).map(|k| ((k * 7) >> 3) as u8).collect();
     fs::write(&before, &image).expect("written");
-    let words = ["run", "--image", text(&before), "--save", text(&after)];
+    let words = ["run", "--image", word(&before), "--save", word(&after)];
     assert!(oxterin(&words, "06\n02 00 12 34 0F\n").status.success());
     let mut expected = image.clone();
     expected[0x1234] &= 0x0F;
@@ -148,7 +132,7 @@ fn a_saved_image_goes_behind_a_link_and_keeps_permissions() {
     fs::write(&file, "old").expect("written");
     fs::set_permissions(&file, fs::Permissions::from_mode(0o600)).expect("set");
     symlink(&file, &link).expect("linked");
-    assert!(oxterin(&["run", "--size", "65536", "--save", text(&link)], "06\n").status.success());
+    assert!(oxterin(&["run", "--size", "65536", "--save", word(&link)], "06\n").status.success());
     assert_eq!(fs::read(&file).expect("saved"), vec![0xFF; 65_536]);
     assert_eq!(fs::metadata(&file).expect("there").permissions().mode() & 0o777, 0o600);
     assert!(fs::symlink_metadata(&link).expect("there").is_symlink());
@@ -170,7 +154,7 @@ fn words_that_are_no_text_are_complained_of() {
 #[test]
 fn a_bad_line_names_its_place_and_saves_nothing() {
     let after = scratch("unsaved.bin");
-    let output = oxterin(&["run", "--save", text(&after)], "06\n02 00 00 0O 11\n");
+    let output = oxterin(&["run", "--save", word(&after)], "06\n02 00 00 0O 11\n");
     assert_eq!(
         complained(&output),
         "oxterin: standard input, line 2, column 11: 0O: bytes are pairs of hexadecimal digits; \
@@ -183,7 +167,7 @@ fn a_bad_line_names_its_place_and_saves_nothing() {
 #[test]
 fn a_refused_frame_ends_the_run() {
     let after = scratch("refused.bin");
-    let complaint = oxterin(&["run", "--save", text(&after)], "05 00 /17\n");
+    let complaint = oxterin(&["run", "--save", word(&after)], "05 00 /17\n");
     assert!(complained(&complaint).contains("line 1: refusal 4"), "{}", complained(&complaint));
     assert!(!after.exists());
 }

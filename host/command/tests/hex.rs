@@ -1,68 +1,16 @@
 //! `oxterin hex`, and HEX files of `run`, as their user sees them: what is written where, and what is complained of a faulty text.
+mod common;
+
+use common::{complaint, complaint_in, says, word};
 use std::fs;
-use std::io::Write;
 use std::path::{Path, PathBuf};
-use std::process::{Command, Output, Stdio};
 
 /// The end record with its line's ending.
 const END: &str = ":00000001FF\n";
 
-/// Runs the command with these words, and these bytes on standard input.
-fn oxterin(words: &[&str], input: &[u8]) -> Output {
-    oxterin_in(Path::new("."), words, input)
-}
-
-/// Runs the command in a folder.
-fn oxterin_in(folder: &Path, words: &[&str], input: &[u8]) -> Output {
-    let mut child = Command::new(env!("CARGO_BIN_EXE_oxterin"))
-        .args(words)
-        .current_dir(folder)
-        .stdin(Stdio::piped())
-        .stdout(Stdio::piped())
-        .stderr(Stdio::piped())
-        .spawn()
-        .expect("the command starts");
-    // A command that complains before it reads leaves its input unread.
-    let _ = child.stdin.take().expect("standard input").write_all(input);
-    child.wait_with_output().expect("the command ends")
-}
-
-/// Runs the command, which has to end well and say nothing but these bytes.
-fn says(words: &[&str], input: &[u8]) -> Vec<u8> {
-    let output = oxterin(words, input);
-    let complaint = String::from_utf8_lossy(&output.stderr);
-    assert!(output.status.success() && complaint.is_empty(), "{words:?}: {complaint}");
-    output.stdout
-}
-
-/// Runs the command, which has to fail and write nothing on standard output: what it complains of.
-fn complaint(words: &[&str], input: &[u8]) -> String {
-    complaint_in(Path::new("."), words, input)
-}
-
-/// Runs the command in a folder, as [`complaint`] does.
-fn complaint_in(folder: &Path, words: &[&str], input: &[u8]) -> String {
-    let output = oxterin_in(folder, words, input);
-    assert_eq!(output.status.code(), Some(2), "{words:?}");
-    assert_eq!(output.stdout, b"", "{words:?}");
-    let complaint = String::from_utf8(output.stderr).expect("text");
-    let words = complaint.strip_prefix("oxterin: ").and_then(|words| words.strip_suffix('\n'));
-    words
-        .expect("a complaint is a line that begins with the command's name")
-        .to_string()
-}
-
 /// An empty folder for a test's files.
 fn folder(name: &str) -> PathBuf {
-    let folder = Path::new(env!("CARGO_TARGET_TMPDIR")).join("hex").join(name);
-    let _ = fs::remove_dir_all(&folder);
-    fs::create_dir_all(&folder).expect("a folder");
-    folder
-}
-
-/// A path as a word of the command line.
-fn word(path: &Path) -> &str {
-    path.to_str().expect("the path is text")
+    common::folder("hex", name)
 }
 
 /// An image of which no two blocks of 64 KiB and no two pages are alike.
@@ -100,13 +48,13 @@ fn an_image_becomes_a_text_and_the_text_the_image() {
 fn a_dash_is_standard_input_or_output() {
     let folder = folder("dash");
     let file = folder.join("file");
-    let text = says(&["hex", "to", "-", "-"], &image(131_072));
+    let text = says(&["hex", "to", "-", "-"], image(131_072));
     assert_eq!(text.len(), 360_492);
     assert_eq!(says(&["hex", "from", "-", "-"], &text), image(131_072));
     assert_eq!(says(&["hex", "from", "-", word(&file)], &text), b"");
     assert_eq!(fs::read(&file).expect("an image"), image(131_072));
     assert_eq!(says(&["hex", "to", word(&file), "-"], b""), text);
-    let small = says(&["hex", "to", "-", "-"], &image(65_536));
+    let small = says(&["hex", "to", "-", "-"], image(65_536));
     assert_eq!(says(&["hex", "--size=65,536", "from", "-", "-"], &small), image(65_536));
 }
 
@@ -601,7 +549,7 @@ fn files_are_saved_behind_links_with_their_permissions() {
     symlink(&file, &link).expect("linked");
     says(&["hex", "from", "-", word(&link)], END.as_bytes());
     assert_eq!(fs::read(&file).expect("saved"), [0xFF; 131_072]);
-    says(&["hex", "to", "-", word(&link)], &[0xFF; 65_536]);
+    says(&["hex", "to", "-", word(&link)], [0xFF; 65_536]);
     assert_eq!(fs::read(&file).expect("saved").len(), 180_252);
     assert_eq!(fs::metadata(&file).expect("there").permissions().mode() & 0o777, 0o600);
     assert!(fs::symlink_metadata(&link).expect("there").is_symlink());

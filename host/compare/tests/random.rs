@@ -2,10 +2,9 @@
 //!
 //! `COMPARE_FRAMES` asks for more frames than usual, `COMPARE_SEED` for the series of an earlier run, and `COMPARE_REPLAY` names a file
 //! with a series to run again.
-use compare::{asked, clock, replay, report, text, Call, Care, Generator, Random, Tally, Trial};
+use compare::{both_sizes, replay, text, Call, Care, Generator, Random, Tally, Trial};
 use oxterin::Size;
 use std::env;
-use std::thread;
 
 /// How many frames a usual run has, both sizes together.
 const FRAMES: u64 = 1_000_000;
@@ -15,16 +14,7 @@ const LEAST_BEGUN: f64 = 15.0;
 
 #[test]
 fn long_random_series_agree() {
-    let seed = asked("COMPARE_SEED").unwrap_or_else(clock);
-    let frames = asked("COMPARE_FRAMES").unwrap_or(0).max(FRAMES);
-    println!("COMPARE_SEED={seed} COMPARE_FRAMES={frames}");
-    let runs = thread::scope(|scope| {
-        Size::ALL
-            .map(|size| scope.spawn(move || many_series(seed, size, frames.div_ceil(2))))
-            .map(|thread| thread.join().expect("the series end"))
-    });
-    for (size, run) in Size::ALL.into_iter().zip(runs) {
-        let tally = run.unwrap_or_else(|calls| panic!("COMPARE_SEED={seed}, {size:?}: {}", report(calls)));
+    for (size, tally) in both_sizes(FRAMES, many_series) {
         println!("{size:?}: {tally}");
         assert!(tally.gaps().is_empty(), "never seen: {:?}", tally.gaps());
         assert!(tally.share("begun") >= LEAST_BEGUN, "too few operations begin");
