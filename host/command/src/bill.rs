@@ -1,14 +1,16 @@
 //! `oxterin bill`: frames from text, and which account pays for the time that the part was busy.
 use crate::complaint::{complaint, Complaint};
-use crate::frames::{Frames, LINE_HELP, UNSAID_HELP, UNSAID_VALUED};
-use crate::options::{part, Given, PART_FLAGS, PART_HELP, PART_VALUED};
+use crate::frames::{self, Frames, LINE_HELP, UNSAID_HELP, UNSAID_VALUED};
+use crate::fresh::{PART_FLAGS, PART_HELP, PART_VALUED};
+use crate::options::Given;
 use crate::page::page;
+use crate::paths::apart;
 use crate::progress::Progress;
 use crate::say;
+use crate::state::{self, STATE_HELP};
 use crate::table::{csv, table};
 use crate::tally::Tally;
-use crate::whole::Kind;
-use std::fs;
+use crate::whole::{Held, Kind};
 
 /// `oxterin bill --help`.
 pub fn help() -> String {
@@ -17,14 +19,17 @@ pub fn help() -> String {
 oxterin bill: sends frames to a part and says which account pays for the time that it was busy
 
 Usage: oxterin bill [FILE] [OPTIONS]
+       oxterin bill --state STATE [--close] [OPTIONS]
 
 Reads FILE, or standard input if there is none or it is -. The lines are those that run takes, and account=N in a line
-says whose frame it is. A bad line or a refused frame is an error that names the line, and then there is no bill.
+says whose frame it is; the log of oxterin serve is such a file. A bad line or a refused frame is an error that names
+the line, and then there is no bill. With --state and no FILE nothing is sent: the bill is that of the books in STATE,
+as they were last saved, also while a server uses them.
 
 {LINE_HELP}
 A tick for which the part is busy is billed to the account whose frame began the operation, whoever polls afterwards. It
-is counted from the end of that frame to the end of the operation, or of the reset that stops it. The bill begins with
-an empty ledger and an idle part, and an operation that still runs at the end of the file is billed up to there. The
+is counted from the end of that frame to the end of the operation, or of the reset that stops it. Without --state the
+bill begins with an empty ledger and an idle part. An operation that still runs at the end is billed up to there. The
 bill has a row for each account that began an operation, with a bar in proportion to its total:
 
   account   total ticks   most for one operation   operations
@@ -33,7 +38,11 @@ bill has a row for each account that began an operation, with a bar in proportio
       all     1,650,012                1,600,000            3
 
 Options:
-{PART_HELP}{UNSAID_HELP}  --csv               comma-separated values in place of the table, with the heads account,total,most,operations
+{PART_HELP}{STATE_HELP}{UNSAID_HELP}  --close             closes a month: the bill is written, then the books of --state are emptied and saved. An
+                      operation that is running stays its account's: what it is billed from then on is in the
+                      new books, and their most for one operation counts all of its ticks. If the bill cannot be
+                      written, the books stay as they were. A server that uses the state has to be ended first
+  --csv               comma-separated values in place of the table, with the heads account,total,most,operations
   --html OUT          beside the table or --csv, the bill as a page for a browser goes to OUT, whole: a line for each
                       operation, with its frame, what it was billed, and who sent frames while it ran
 "
@@ -48,20 +57,70 @@ const PAGE: Kind = Kind {
 
 /// Adds up what frames cost, and whom.
 pub fn bill(words: &[String]) -> Result<(), Complaint> {
-    let valued = [&PART_VALUED[..], &UNSAID_VALUED, &["--html"]].concat();
-    let flags = [&PART_FLAGS[..], &["--csv"]].concat();
+    let valued = [&PART_VALUED[..], &UNSAID_VALUED, &["--state", "--html"]].concat();
+    let flags = [&PART_FLAGS[..], &["--csv", "--close"]].concat();
     let given = Given::read(words, &valued, &flags)?;
-    let mut tally = Tally::new(part(&given)?, given.value("--html").is_some());
-    let mut frames = Frames::open("bill", &given)?;
-    given.value("--html").map_or(Ok(()), |path| check(path, &given))?;
-    add_up(&mut tally, &mut frames)?;
-    given
-        .value("--html")
-        .map_or(Ok(()), |path| PAGE.save(path, page(frames.name(), &tally).as_bytes()))?;
-    match given.has("--csv") {
-        true => say(&csv(&tally)),
-        false => say(&table(&tally)),
+    match state::path(&given)? {
+        Some(path) if given.words.is_empty() => of_books(path, &given),
+        None if given.has("--close") => Err(complaint(
+            "--close empties the books of a state; name it: oxterin bill --state FILE --close",
+        )),
+        _ => of_frames(&given),
     }
+}
+
+/// The bill of the books in a state. It is only read, unless the books are closed.
+fn of_books(path: &str, given: &Given) -> Result<(), Complaint> {
+    apart(given, &[])?;
+    let page = hold_page(given)?;
+    if !given.has("--close") {
+        let tally = Tally::new(state::load(path)?, true);
+        return hand_out(&tally, path, given, page);
+    }
+    let (desk, held) = state::open(path)?;
+    let tally = Tally::new(desk, true);
+    hand_out(&tally, path, given, page)?;
+    close(tally, held)
+}
+
+/// The bill of frames, on a fresh part or in the books of a state.
+fn of_frames(given: &Given) -> Result<(), Complaint> {
+    apart(given, &[frames::source(given)])?;
+    let page = hold_page(given)?;
+    let (desk, mut kept) = state::desk(given)?;
+    let mut tally = Tally::new(desk, page.is_some());
+    let mut frames = Frames::open("bill", given)?;
+    add_up(&mut tally, &mut frames)?;
+    if let Some(held) = &mut kept {
+        held.save(&state::encode(&tally.desk))?;
+    }
+    hand_out(&tally, frames.name(), given, page)?;
+    match kept {
+        Some(held) if given.has("--close") => close(tally, held),
+        _ => Ok(()),
+    }
+}
+
+/// Takes hold of the page's file, if there is to be one.
+fn hold_page(given: &Given) -> Result<Option<Held>, Complaint> {
+    given.value("--html").map(|path| PAGE.hold(path)).transpose()
+}
+
+/// Writes the bill, with the name of what it is a bill of.
+fn hand_out(tally: &Tally, name: &str, given: &Given, page_file: Option<Held>) -> Result<(), Complaint> {
+    if let Some(mut held) = page_file {
+        held.save(page(name, tally).as_bytes())?;
+    }
+    match given.has("--csv") {
+        true => say(&csv(&tally.desk)),
+        false => say(&table(tally)),
+    }
+}
+
+/// Empties the books and saves them.
+fn close(mut tally: Tally, mut held: Held) -> Result<(), Complaint> {
+    tally.desk.close();
+    held.save(&state::encode(&tally.desk))
 }
 
 /// Sends all frames.
@@ -75,21 +134,4 @@ fn add_up(tally: &mut Tally, frames: &mut Frames) -> Result<(), Complaint> {
         progress.tell(frames);
     }
     Ok(())
-}
-
-/// Whether the page could be saved there, in the place of anything but the files that the frames and the image come from.
-fn check(path: &str, given: &Given) -> Result<(), Complaint> {
-    let out = fs::canonicalize(path).ok();
-    let is_out = |from: &str| out.is_some() && fs::canonicalize(from).ok() == out;
-    let sources = [
-        ("the frames come", given.words.first().map(String::as_str)),
-        ("the image comes", given.value("--image")),
-    ];
-    match sources.into_iter().find(|(_, from)| from.is_some_and(is_out)) {
-        Some((words, _)) => Err(complaint(format!(
-            "--html {path}: {words} from that file; name another, such as {}",
-            PAGE.such_as
-        ))),
-        None => PAGE.check(path),
-    }
 }

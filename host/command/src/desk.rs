@@ -1,13 +1,22 @@
-//! A part with a ledger beside it, to which frames are sent for accounts.
+//! A part with its books: a ledger through which all frames go, and the time that has passed.
 use crate::frames::Frame;
-use oxterin::{Exchange, Ledger, Part};
+use oxterin::{Exchange, Ledger, Line, Part, Signals};
 
-/// A part and its ledger.
+/// A part, its ledger, and the time.
+#[derive(Clone, Debug, PartialEq, Eq)]
 pub struct Desk {
     /// The part.
     pub part: Part,
-    /// Who began what, and what it cost; empty at first.
+    /// Who began what, and what it cost.
     pub ledger: Ledger,
+    /// The ticks that have passed, before the frames and with their bytes.
+    pub tick: u128,
+    /// Ticks that have passed since the last frame and go to the next one.
+    pub waiting: u64,
+    /// What `tick` was when the ledger's tables were empty.
+    pub opened: u128,
+    /// How many frames were accepted since.
+    pub frames: u64,
 }
 
 /// What came of a frame.
@@ -27,26 +36,85 @@ pub struct Billed {
     pub ticks: u64,
 }
 
+/// What all accounts were billed.
+#[derive(Clone, Copy, Debug, Default, PartialEq, Eq)]
+pub struct All {
+    /// The sum of their totals.
+    pub total: u128,
+    /// The most for one operation.
+    pub most: u64,
+    /// How many operations they began.
+    pub number: u128,
+}
+
 impl Desk {
-    /// This part with an empty ledger.
+    /// This part with an empty ledger, at tick 0.
     pub fn new(part: Part) -> Desk {
         Desk {
             part,
             ledger: Ledger::empty(),
+            tick: 0,
+            waiting: 0,
+            opened: 0,
+            frames: 0,
+        }
+    }
+
+    /// The signals with which a frame reaches the part: the ticks that waited for it have elapsed, too.
+    pub fn signals(&self, frame: &Frame) -> Signals {
+        Signals {
+            elapsed: frame.signals.elapsed.saturating_add(self.waiting),
+            ..frame.signals
         }
     }
 
     /// Sends a frame for its account. If it is refused nothing changes, and the words say why.
     pub fn send(&mut self, frame: &Frame) -> Result<Sent, String> {
+        self.exchange(frame.account(), &frame.input, self.signals(frame))
+            .map_err(|refusal| format!("{refusal} ({} bytes, {} bits)", frame.input.len(), frame.signals.bits))
+    }
+
+    /// Sends bytes with these signals, for an account. If they are refused nothing changes.
+    pub fn exchange(&mut self, account: u8, input: &[u8], signals: Signals) -> Result<Sent, oxterin::Refusal> {
         let owner = self.ledger.running.owner();
         let total = |ledger: &Ledger| owner.map_or(0, |account| ledger.totals[usize::from(account)]);
         let before = total(&self.ledger);
-        let exchange = self
-            .part
-            .frame_for(frame.account().into(), &mut self.ledger, &frame.input, frame.signals)
-            .map_err(|refusal| format!("{refusal} ({} bytes, {} bits)", frame.input.len(), frame.signals.bits))?;
+        let exchange = self.part.frame_for(account.into(), &mut self.ledger, input, signals)?;
         let ticks = total(&self.ledger) - before;
+        self.tick += u128::from(signals.elapsed) + u128::from(signals.frame_ticks());
+        self.waiting = 0;
+        self.frames += 1;
         let billed = owner.filter(|_| ticks > 0).map(|account| Billed { account, ticks });
         Ok(Sent { exchange, billed })
+    }
+
+    /// The ticks that have passed since the tables were empty.
+    pub fn passed(&self) -> u128 {
+        self.tick - self.opened
+    }
+
+    /// The accounts that began an operation or were billed anything, with their lines of the ledger.
+    pub fn accounts(&self) -> Vec<(u8, Line)> {
+        let lines = self.ledger.lines();
+        lines.filter(|(_, line)| line.number > 0 || line.total > 0).collect()
+    }
+
+    /// What all accounts were billed, which is every tick for which the part was busy with an operation of theirs.
+    pub fn all(&self) -> All {
+        self.accounts().into_iter().fold(All::default(), |all, (_, line)| All {
+            total: all.total + u128::from(line.total),
+            most: all.most.max(line.most),
+            number: all.number + u128::from(line.number),
+        })
+    }
+
+    /// Empties the tables. What is running goes on, and what it was billed so far still counts for the most of one operation.
+    pub fn close(&mut self) {
+        self.ledger = Ledger {
+            running: self.ledger.running,
+            ..Ledger::empty()
+        };
+        self.opened = self.tick;
+        self.frames = 0;
     }
 }

@@ -1,10 +1,12 @@
 //! Frames as lines of text ask for them, for every subcommand that sends frames from a file.
 use crate::complaint::{complain, complaint, Complaint};
+use crate::lines::thousands;
 use crate::options::{account, account_of, byte_ticks, level_of, number, ticks_per_byte, wp_high, Given};
+use crate::paths::Use;
 use crate::source::DASH;
 use oxterin::Signals;
 use std::fs::File;
-use std::io::{self, BufRead, BufReader, IsTerminal, Split};
+use std::io::{self, BufRead, BufReader, IsTerminal, Read};
 
 /// How a line looks.
 pub const LINE_HELP: &str = "  02 00 10 FE 11 22      the bytes of the frame, as pairs of hexadecimal digits
@@ -24,6 +26,9 @@ pub const UNSAID_HELP: &str = "  --wp low|high       WP's level where a line doe
   --ticks-per-byte N  ticks that pass with each byte of a frame where a line does not say, 0 (default) to 1000
   --account N         whose frame it is where a line does not say, 0 (default) to 255
 ";
+
+/// No line has more bytes, its end left out. The longest frame takes some 25,000 of them; the rest is for blanks and a comment.
+const LONGEST_LINE: u64 = 1 << 16;
 
 /// One frame as a line asks for it.
 #[derive(Clone, Debug, PartialEq, Eq)]
@@ -54,7 +59,7 @@ struct Unsaid {
 /// The frames of a file or of standard input, in turn, each with the number of its line. A bad line is a complaint that names its place.
 pub struct Frames {
     name: String,
-    lines: Split<Box<dyn BufRead>>,
+    source: Box<dyn BufRead>,
     unsaid: Unsaid,
     /// How many lines have been read.
     pub line: usize,
@@ -75,7 +80,7 @@ impl Frames {
         let text = Text::open(command, &given.words)?;
         Ok(Frames {
             name: text.name,
-            lines: text.source.split(b'\n'),
+            source: text.source,
             unsaid,
             line: 0,
             read: 0,
@@ -93,11 +98,38 @@ impl Frames {
         format!("{}, line {}", self.name, self.line)
     }
 
-    /// The frame of the line read last, if it has one.
-    fn frame(&mut self, line: io::Result<Vec<u8>>) -> Result<Option<Frame>, Complaint> {
-        let line = line.map_err(|error| complaint(format!("{}: {error}", self.place())))?;
-        self.read += line.len() as u64 + 1;
-        read(&line, self.unsaid).map_err(|(column, words)| complaint(format!("{}, column {column}: {words}", self.place())))
+    /// The next line, its end too; none at the end of the text. A line that is too long is not read to its end.
+    fn next_line(&mut self) -> Result<Option<Vec<u8>>, Complaint> {
+        let mut line = Vec::new();
+        let read = self.source.by_ref().take(LONGEST_LINE + 1).read_until(b'\n', &mut line);
+        self.line += usize::from(!matches!(read, Ok(0)));
+        let read = read.map_err(|error| complaint(format!("{}: {error}", self.place())))? as u64;
+        self.read += read;
+        match line.last() {
+            None => Ok(None),
+            Some(last) if read > LONGEST_LINE && *last != b'\n' => Err(complaint(format!(
+                "{}: longer than {} bytes, and a frame of 8,192 bytes takes some 25,000; is this a text of frames, with a line for each?",
+                self.place(),
+                thousands(LONGEST_LINE)
+            ))),
+            _ => Ok(Some(line)),
+        }
+    }
+
+    /// The frame of a line, if it has one.
+    fn frame(&self, line: &[u8]) -> Result<Option<Frame>, Complaint> {
+        let line = line.strip_suffix(b"\n").unwrap_or(line);
+        read(line, self.unsaid).map_err(|(column, words)| complaint(format!("{}, column {column}: {words}", self.place())))
+    }
+
+    /// The next frame with the number of its line; none at the end of the text.
+    fn next_frame(&mut self) -> Result<Option<(usize, Frame)>, Complaint> {
+        while let Some(line) = self.next_line()? {
+            if let Some(frame) = self.frame(&line)? {
+                return Ok(Some((self.line, frame)));
+            }
+        }
+        Ok(None)
     }
 }
 
@@ -105,14 +137,13 @@ impl Iterator for Frames {
     type Item = Result<(usize, Frame), Complaint>;
 
     fn next(&mut self) -> Option<Self::Item> {
-        loop {
-            let line = self.lines.next()?;
-            self.line += 1;
-            if let Some(frame) = self.frame(line).transpose() {
-                return Some(frame.map(|frame| (self.line, frame)));
-            }
-        }
+        self.next_frame().transpose()
     }
+}
+
+/// The file that the frames come from, for the list of a call's files.
+pub fn source(given: &Given) -> (&'static str, &str, Use) {
+    ("the frames", given.words.first().map_or(DASH, String::as_str), Use::Read)
 }
 
 /// Where the lines come from, what to call that, and how many bytes there are, if that is known.
@@ -123,7 +154,7 @@ struct Text {
 }
 
 impl Text {
-    /// What the words behind a subcommand name.
+    /// What the words after a subcommand name.
     fn open(command: &str, words: &[String]) -> Result<Text, Complaint> {
         match words {
             [] => {
@@ -225,22 +256,22 @@ impl Said {
     /// One word more.
     fn read(&mut self, word: &Word<'_>) -> Result<(), Fault> {
         if let Some(count) = word.text.strip_prefix('/') {
-            let remedy = "behind / stands the number of bits clocked, such as /11";
+            let remedy = "after / comes the number of bits clocked, such as /11";
             set_once(&mut self.bits, number(count), word, remedy)
         } else if let Some(ticks) = word.text.strip_prefix('+') {
-            let remedy = "behind + stands the number of ticks elapsed, up to 2^64 - 1, such as +2000";
+            let remedy = "after + comes the number of ticks elapsed, up to 2^64 - 1, such as +2000";
             set_once(&mut self.elapsed, number(ticks), word, remedy)
         } else if let Some(ticks) = word.text.strip_prefix('@') {
             let remedy =
-                "behind @ stands, with no blank between, the number of ticks that each byte takes, at most 1,000 (refusal 8), such as @8";
+                "after @ comes, with no blank between, the number of ticks that each byte takes, at most 1,000 (refusal 8), such as @8";
             set_once(&mut self.ticks_per_byte, byte_ticks(ticks), word, remedy)
         } else if let Some(name) = word.text.strip_prefix("wp=") {
             set_once(&mut self.wp_high, level_of(name), word, "write wp=low or wp=high")
         } else if let Some(account) = word.text.strip_prefix("account=") {
-            let remedy = "behind account= stands, with no blank between, whose frame it is, from 0 to 255 (refusal 9), such as account=7";
+            let remedy = "after account= comes, with no blank between, whose frame it is, from 0 to 255 (refusal 9), such as account=7";
             set_once(&mut self.account, account_of(account), word, remedy)
         } else if word.text.contains('=') {
-            Err(word.fault("of words with = there are wp=low, wp=high and account=, behind which stands a number, such as account=7"))
+            Err(word.fault("of words with = there are wp=low, wp=high and account=, after which comes a number, such as account=7"))
         } else {
             self.input.extend(bytes(word)?);
             Ok(())

@@ -1,9 +1,10 @@
 //! `oxterin hex`: array images as Intel HEX text, and back.
 use crate::complaint::{complaint, Complaint};
 use crate::options::{size, Given};
+use crate::paths::{apart, Use};
 use crate::source::{Source, DASH};
-use crate::{hex_fault, image, put};
-use oxterin::{hex_read, hex_text, Size};
+use crate::{image, put};
+use oxterin::{hex_text, Size};
 
 /// `oxterin hex --help`.
 pub const HELP: &str = "\
@@ -33,43 +34,32 @@ pub fn hex(words: &[String]) -> Result<(), Complaint> {
     let given = Given::read(words, &["--size"], &[])?;
     let size = size(&given)?;
     let words: Vec<&str> = given.words.iter().map(String::as_str).collect();
+    if let [_, from, to] = words[..] {
+        apart(&given, &[("the input", from, Use::Read), ("the output", to, Use::Written)])?;
+    }
     match (&words[..], size) {
         (["to", _, _], Some(_)) => Err(complaint("hex to takes no --size, since the image has its own; leave it out")),
         (["to", from, to], None) => convert(from, to, text),
-        (["from", from, to], size) => convert(from, to, |source, text| array(source, text, size.unwrap_or(Size::Whole))),
+        (["from", from, to], size) => convert(from, to, |source, text| image::of_hex(source, text, size.unwrap_or(Size::Whole))),
         (["to" | "from", _, _, more, ..], _) => Err(complaint(format!("hex takes two files, and {more} is a third one"))),
-        (["to", ..], _) => Err(complaint("hex to wants two files behind it, or - : oxterin hex to IMAGE TEXT")),
-        (["from", ..], _) => Err(complaint("hex from wants two files behind it, or - : oxterin hex from TEXT IMAGE")),
+        (["to", ..], _) => Err(complaint("hex to wants two files after it, or - : oxterin hex to IMAGE TEXT")),
+        (["from", ..], _) => Err(complaint("hex from wants two files after it, or - : oxterin hex from TEXT IMAGE")),
         ([other, ..], _) => Err(complaint(format!("hex {other}: write hex to IMAGE TEXT, or hex from TEXT IMAGE"))),
         ([], _) => Err(complaint(
-            "hex wants to or from behind it: hex to IMAGE TEXT, or hex from TEXT IMAGE",
+            "hex wants to or from after it: hex to IMAGE TEXT, or hex from TEXT IMAGE",
         )),
     }
 }
 
 /// Reads what one word names, turns it, and writes the outcome where the other says. If it cannot be turned, nothing is written.
 fn convert(from: &str, to: &str, turn: impl Fn(Source<'_>, &[u8]) -> Result<Vec<u8>, Complaint>) -> Result<(), Complaint> {
-    if to != DASH {
-        image::check(to)?;
-    }
+    let held = (to != DASH).then(|| image::hold(to)).transpose()?;
     let source = Source::of_word(from);
     let bytes = turn(source, &source.read()?)?;
-    match to {
-        DASH => put(&bytes),
-        path => image::save(path, &bytes),
-    }
+    held.map_or_else(|| put(&bytes), |mut held| held.save(&bytes))
 }
 
 /// The text of an image, which nothing but its length can make impossible.
 fn text(source: Source<'_>, image: &[u8]) -> Result<Vec<u8>, Complaint> {
     hex_text(image).map_err(|_| image::wrong_length(source, image, None))
-}
-
-/// The array that a text fills, every other byte being FFh.
-pub fn array(source: Source<'_>, text: &[u8], size: Size) -> Result<Vec<u8>, Complaint> {
-    let mut array = vec![0xFF; size.bytes()];
-    match hex_read(text, &mut array) {
-        Ok(()) => Ok(array),
-        Err(error) => Err(complaint(hex_fault::find(source, text, size, error).to_string())),
-    }
 }

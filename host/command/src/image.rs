@@ -1,9 +1,9 @@
 //! Array images in files: read whole, written whole.
 use crate::complaint::{complaint, Complaint};
-use crate::hex;
+use crate::hex_fault;
 use crate::source::Source;
-use crate::whole::Kind;
-use oxterin::{hex_text, ImageLength, Size};
+use crate::whole::{Held, Kind};
+use oxterin::{hex_read, hex_text, ImageLength, Size};
 
 /// What is saved here.
 const IMAGE: Kind = Kind {
@@ -17,7 +17,7 @@ pub fn load(path: &str, size: Option<Size>) -> Result<Vec<u8>, Complaint> {
     let source = Source::File(path);
     let bytes = source.read()?;
     if is_hex(path) {
-        return hex::array(source, &bytes, size.unwrap_or(Size::Whole));
+        return of_hex(source, &bytes, size.unwrap_or(Size::Whole));
     }
     match Size::of_bytes(bytes.len()) {
         Some(_) => Ok(bytes),
@@ -25,15 +25,21 @@ pub fn load(path: &str, size: Option<Size>) -> Result<Vec<u8>, Complaint> {
     }
 }
 
-/// Saves the array of a part as [`save`] does, as HEX text if the file's name asks for it.
-pub fn keep(path: &str, array: &[u8]) -> Result<(), Complaint> {
-    if is_hex(path) {
-        return save(
-            path,
-            &hex_text(array).expect("the array of a part has a size of which HEX is written"),
-        );
+/// The array that a HEX text fills, every other byte being FFh.
+pub fn of_hex(source: Source<'_>, text: &[u8], size: Size) -> Result<Vec<u8>, Complaint> {
+    let mut array = vec![0xFF; size.bytes()];
+    match hex_read(text, &mut array) {
+        Ok(()) => Ok(array),
+        Err(error) => Err(complaint(hex_fault::find(source, text, size, error).to_string())),
     }
-    save(path, array)
+}
+
+/// What a file of this name holds if it has the image of this array: HEX text if the name asks for it.
+pub fn written(path: &str, array: &[u8]) -> Vec<u8> {
+    match is_hex(path) {
+        true => hex_text(array).expect("the array of a part has a size of which HEX is written"),
+        false => array.to_vec(),
+    }
 }
 
 /// Whether a file has HEX text, by its name.
@@ -68,12 +74,13 @@ pub fn wrong_length(source: Source<'_>, image: &[u8], size: Option<Size>) -> Com
     complaint(format!("{}: {}; {remedy}", source.name(), ImageLength(image.len())))
 }
 
-/// Whether an image could be saved there, without touching what is there.
-pub fn check(path: &str) -> Result<(), Complaint> {
-    IMAGE.check(path)
+/// Takes hold of the file where an image is to be saved.
+pub fn hold(path: &str) -> Result<Held, Complaint> {
+    IMAGE.hold(path)
 }
 
-/// Saves an image, or its text, as [`Kind::save`] does: whole, or not at all.
-pub fn save(path: &str, bytes: &[u8]) -> Result<(), Complaint> {
-    IMAGE.save(path, bytes)
+/// Saves the image of an array.
+pub fn save(held: &mut Held, array: &[u8]) -> Result<(), Complaint> {
+    let bytes = written(held.path(), array);
+    held.save(&bytes)
 }

@@ -2,21 +2,24 @@
 #![forbid(unsafe_code)]
 
 mod bill;
+mod books;
 mod complaint;
 mod desk;
 mod frames;
+mod fresh;
 mod hex;
 mod hex_fault;
 mod image;
 mod lines;
 mod options;
 mod page;
+mod paths;
 mod progress;
 mod run;
-mod serprog;
 mod serve;
 mod session;
 mod source;
+mod state;
 mod table;
 mod tally;
 mod whole;
@@ -34,6 +37,7 @@ Usage: oxterin COMMAND [OPTIONS]
   run         frames from a file or standard input, answered line by line
   bill        frames from a file or standard input, and which account pays for the busy time
   serve       the part behind the serprog protocol, for flashrom and other clients
+  state       a part with its books in one file, shown or made
   hex         array images to Intel HEX text, and back
 
   oxterin COMMAND --help    what a command takes
@@ -50,7 +54,7 @@ fn main() -> ExitCode {
     }
 }
 
-/// The words behind the command's name.
+/// The words after the command's name.
 fn words() -> Result<Vec<String>, Complaint> {
     std::env::args_os()
         .skip(1)
@@ -82,15 +86,17 @@ fn obey(words: &[String]) -> Result<(), Complaint> {
         "run" if asks_help => say(&run::help()),
         "bill" if asks_help => say(&bill::help()),
         "serve" if asks_help => say(&serve::help()),
+        "state" if asks_help => say(&books::help()),
         "hex" if asks_help => say(hex::HELP),
         "session" if rest.is_empty() => say(&session::lines()?),
-        "session" => Err(complaint(format!("session takes nothing behind it, and was given {}", rest[0]))),
+        "session" => Err(complaint(format!("session takes nothing after it, and was given {}", rest[0]))),
         "run" => run::run(rest),
         "bill" => bill::bill(rest),
         "serve" => serve::serve(rest),
+        "state" => books::state(rest),
         "hex" => hex::hex(rest),
         other => Err(complaint(format!(
-            "unknown command {other}; there are session, run, bill, serve and hex"
+            "unknown command {other}; there are session, run, bill, serve, state and hex"
         ))),
     }
 }

@@ -1,7 +1,6 @@
-//! The words behind a subcommand: options with a value, options without, and the rest.
+//! The words after a subcommand: options with a value, options without, and the rest.
 use crate::complaint::{complaint, Complaint};
-use crate::image;
-use oxterin::{Part, Settings, Signals, Size};
+use oxterin::{Signals, Size};
 
 /// What a subcommand was given.
 #[derive(Debug)]
@@ -35,7 +34,7 @@ impl Given {
                     given.flags.push(name.to_string());
                 } else if valued.contains(&name) {
                     let value = value.or_else(|| rest.next().cloned());
-                    let value = value.ok_or_else(|| complaint(format!("{name} wants a value behind it")))?;
+                    let value = value.ok_or_else(|| complaint(format!("{name} wants a value after it")))?;
                     given.values.push((name.to_string(), value));
                 } else {
                     return Err(complaint(format!("unknown option {word}; --help lists those there are")));
@@ -68,20 +67,6 @@ impl Given {
     }
 }
 
-/// The options that describe a part, for every subcommand that makes one.
-pub const PART_VALUED: [&str; 3] = ["--size", "--image", "--set"];
-/// Those of them that take no value.
-pub const PART_FLAGS: [&str; 3] = ["--bpl", "--bp0", "--otp-used"];
-/// What they mean.
-pub const PART_HELP: &str = "  --size BYTES        131072 (default) or 65536; an --image that is not HEX has its own size
-  --image FILE        the array's first content; without it every byte is FFh. A file whose name ends in
-                      .hex or .ihex is Intel HEX text, and bytes that it does not name are FFh
-  --set NAME=TICKS    a duration: byte-program, longer-program, page-erase, erase-4k, erase-32k,
-                      chip-erase, otp-program, status-write; typical ones are the default
-  --bpl --bp0         the first record has BPL, or BP0, set
-  --otp-used          the first record has its one-time-programmable bytes used up
-";
-
 /// A number in decimal, with or without commas or underscores between its thousands.
 pub fn number(text: &str) -> Option<u64> {
     let groups: Vec<&str> = text.split([',', '_']).collect();
@@ -101,52 +86,6 @@ pub fn size(given: &Given) -> Result<Option<Size>, Complaint> {
             None => Err(complaint(format!("--size {text}: a part has 131072 or 65536 bytes"))),
         }
     })
-}
-
-/// The part that the options describe.
-pub fn part(given: &Given) -> Result<Part, Complaint> {
-    let size = size(given)?;
-    let mut part = match given.value("--image") {
-        Some(path) => holding(path, size)?,
-        None => Part::blank(size.unwrap_or(Size::Whole)),
-    };
-    for setting in given.values("--set") {
-        part.settings = set(part.settings, setting)?;
-    }
-    part.record = oxterin::Record::fresh(given.has("--bpl"), given.has("--bp0"), given.has("--otp-used"));
-    Ok(part)
-}
-
-/// A part whose array holds the image of this file, which has the size that is said.
-fn holding(path: &str, size: Option<Size>) -> Result<Part, Complaint> {
-    let part = Part::with_image(image::load(path, size)?).expect("what is loaded has the length of an array");
-    match size {
-        Some(size) if part.array().len() != size.bytes() => Err(complaint(format!(
-            "--size {}: the image has {} bytes; leave --size out, or give an image of that size",
-            size.bytes(),
-            part.array().len()
-        ))),
-        _ => Ok(part),
-    }
-}
-
-/// The settings with one duration changed, given as `NAME=TICKS`.
-fn set(settings: Settings, text: &str) -> Result<Settings, Complaint> {
-    let (name, ticks) = text
-        .split_once('=')
-        .ok_or_else(|| complaint(format!("--set {text}: write NAME=TICKS, such as --set erase-4k=50000")))?;
-    let place = Settings::NAMES.iter().position(|known| *known == name).ok_or_else(|| {
-        complaint(format!(
-            "--set {text}: no duration is called {name}; there are {}",
-            Settings::NAMES.join(", ")
-        ))
-    })?;
-    let ticks = number(ticks)
-        .filter(|ticks| (1..=60_000_000).contains(ticks))
-        .ok_or_else(|| complaint(format!("--set {text}: a duration is a number of ticks from 1 to 60,000,000")))?;
-    let mut words = settings.words();
-    words[place] = ticks;
-    Ok(Settings::of_words(&words))
 }
 
 /// Whether a level is high.

@@ -1,4 +1,5 @@
 //! A bill as one page for a browser, with nothing that has to be fetched.
+use crate::desk::Desk;
 use crate::lines::{counted, hex, thousands};
 use crate::tally::{End, Operation, Tally};
 use oxterin::Line;
@@ -15,7 +16,8 @@ const RULE: &str = "A tick for which the part is busy is billed to the account w
 /// The page of a bill, with the name of the file that the frames come from.
 pub fn page(name: &str, tally: &Tally) -> String {
     let name = escaped(&last_of(name));
-    let accounts = tally.accounts();
+    let desk = &tally.desk;
+    let accounts = desk.accounts();
     format!(
         "<!DOCTYPE html>\n\
          <html lang=\"en\">\n\
@@ -41,10 +43,10 @@ pub fn page(name: &str, tally: &Tally) -> String {
          </footer>\n\
          </body>\n\
          </html>\n",
-        summary = summary(tally, &accounts),
-        facts = facts(tally),
-        accounts = accounts_table(tally, &accounts),
-        operations = operations_table(&tally.operations),
+        summary = summary(desk, &accounts),
+        facts = facts(desk),
+        accounts = accounts_table(desk, &accounts),
+        operations = operations_table(tally),
     )
 }
 
@@ -73,8 +75,8 @@ fn escaped(text: &str) -> String {
 }
 
 /// The bill in a sentence.
-fn summary(tally: &Tally, accounts: &[(u8, Line)]) -> String {
-    let all = tally.all();
+fn summary(desk: &Desk, accounts: &[(u8, Line)]) -> String {
+    let all = desk.all();
     let (begun, billed) = (counted(all.number, "operation"), counted(all.total, "tick"));
     match accounts {
         [] => "Nothing is billed to anyone, for no frame began an operation.".to_string(),
@@ -96,12 +98,12 @@ fn summary(tally: &Tally, accounts: &[(u8, Line)]) -> String {
 }
 
 /// What was counted.
-fn facts(tally: &Tally) -> String {
-    let all = tally.all();
+fn facts(desk: &Desk) -> String {
+    let all = desk.all();
     let facts = [
-        ("Frames sent", thousands(tally.frames)),
+        ("Frames sent", thousands(desk.frames)),
         ("Operations begun", thousands(all.number)),
-        ("Ticks passed", thousands(tally.passed)),
+        ("Ticks passed", thousands(desk.passed())),
         ("Ticks busy", thousands(all.total)),
     ];
     let fact = |(what, number): (&str, String)| format!("<div><dt>{what}</dt><dd>{number}</dd></div>\n");
@@ -109,8 +111,8 @@ fn facts(tally: &Tally) -> String {
 }
 
 /// A row for each account with its bar, and one for all; nothing if there is no account.
-fn accounts_table(tally: &Tally, accounts: &[(u8, Line)]) -> String {
-    let all = tally.all();
+fn accounts_table(desk: &Desk, accounts: &[(u8, Line)]) -> String {
+    let all = desk.all();
     let Some(largest) = accounts.iter().map(|(_, line)| line.total).max() else {
         return String::new();
     };
@@ -172,15 +174,19 @@ fn share(part: u64, all: u128) -> String {
 }
 
 /// A row for each operation; nothing if there is none.
-fn operations_table(operations: &[Operation]) -> String {
-    if operations.is_empty() {
+fn operations_table(tally: &Tally) -> String {
+    if tally.operations.is_empty() {
         return String::new();
     }
-    let rows: String = operations.iter().map(operation_row).collect();
+    let rows: String = tally.operations.iter().map(operation_row).collect();
+    let earlier = match tally.goes_on {
+        true => " The accounts above were also billed for operations of earlier runs, which are not listed here.",
+        false => "",
+    };
     format!(
         "<section>\n\
          <h2>Operations</h2>\n\
-         <p class=\"note\">Each began at the end of the frame that stands beside it. Ticks are counted from the start.</p>\n\
+         <p class=\"note\">Each began at the end of the frame that stands beside it. Ticks are counted from the start.{earlier}</p>\n\
          <table class=\"operations\">\n\
          <thead>\n\
          <tr><th class=\"number\">Began at tick</th><th class=\"number\">Line</th><th>Frame</th><th class=\"number\">Account</th>\
@@ -199,8 +205,8 @@ fn operation_row(operation: &Operation) -> String {
          <td class=\"frame\">{name} <code>{bytes}</code></td><td class=\"number account\">{account}</td>\
          <td class=\"number billed\" data-head=\"Billed\">{billed} <span class=\"of\">of {duration}</span> <span class=\"end {class}\">{end}</span></td>\
          <td class=\"meanwhile\" data-head=\"While it ran\">{meanwhile}</td></tr>\n",
-        tick = thousands(operation.begun),
-        line = operation.line,
+        tick = operation.begun.map_or_else(|| "earlier".to_string(), |begun| thousands(begun.tick)),
+        line = operation.begun.map_or_else(String::new, |begun| begun.line.to_string()),
         name = operation.name(),
         bytes = bytes(operation),
         account = operation.account,

@@ -1,9 +1,12 @@
 //! `oxterin run`: frames from text, answered line by line.
 use crate::complaint::{complaint, Complaint};
-use crate::desk::{Billed, Desk};
-use crate::frames::{Frame, Frames, LINE_HELP, UNSAID_HELP, UNSAID_VALUED};
+use crate::desk::Billed;
+use crate::frames::{self, Frame, Frames, LINE_HELP, UNSAID_HELP, UNSAID_VALUED};
+use crate::fresh::{PART_FLAGS, PART_HELP, PART_VALUED};
 use crate::lines::{answered, counted};
-use crate::options::{part, Given, PART_FLAGS, PART_HELP, PART_VALUED};
+use crate::options::Given;
+use crate::paths::apart;
+use crate::state::{self, STATE_HELP};
 use crate::{image, say};
 use oxterin::Answer;
 
@@ -15,8 +18,8 @@ oxterin run: sends frames to a part and answers each with a line
 
 Usage: oxterin run [FILE] [OPTIONS]
 
-Reads FILE, or standard input if there is none or it is -. A line is a frame; what is behind # is a comment. A bad line
-or a refused frame ends the run with an error that names the line, and then nothing is saved.
+Reads FILE, or standard input if there is none or it is -. A line is a frame; what comes after # is a comment. A bad
+line or a refused frame ends the run with an error that names the line, and then nothing is saved.
 
 {LINE_HELP}
 Each is answered by the bytes sent, what the output read, and status byte 1 after the call:
@@ -24,7 +27,7 @@ Each is answered by the bytes sent, what the output read, and status byte 1 afte
   05 00 00 > FF 11 01 ST 11
 
 Options:
-{PART_HELP}{UNSAID_HELP}  --save FILE         afterwards the array's content goes to FILE, whole; to a name in .hex or .ihex as Intel HEX
+{PART_HELP}{STATE_HELP}{UNSAID_HELP}  --save FILE         afterwards the array's content goes to FILE, whole; to a name in .hex or .ihex as Intel HEX
   --explain           each line also says the outcome, the driven positions, the ticks that the frame lasts, if
                       any, and the busy ticks left; and, once --account or a line has named an account, the
                       ticks billed, if any, and to whom. oxterin bill adds them up
@@ -34,12 +37,13 @@ Options:
 
 /// Answers frames line by line.
 pub fn run(words: &[String]) -> Result<(), Complaint> {
-    let valued = [&PART_VALUED[..], &UNSAID_VALUED, &["--save"]].concat();
+    let valued = [&PART_VALUED[..], &UNSAID_VALUED, &["--state", "--save"]].concat();
     let flags = [&PART_FLAGS[..], &["--explain"]].concat();
     let given = Given::read(words, &valued, &flags)?;
-    let mut desk = Desk::new(part(&given)?);
+    apart(&given, &[frames::source(&given)])?;
+    let mut saved = given.value("--save").map(image::hold).transpose()?;
+    let (mut desk, mut kept) = state::desk(&given)?;
     let mut frames = Frames::open("run", &given)?;
-    given.value("--save").map_or(Ok(()), image::check)?;
     let mut accounts = false;
     while let Some(next) = frames.next() {
         let (_, frame) = next?;
@@ -57,7 +61,10 @@ pub fn run(words: &[String]) -> Result<(), Complaint> {
         };
         say(&format!("{line}{more}\n"))?;
     }
-    given.value("--save").map_or(Ok(()), |path| image::keep(path, desk.part.array()))
+    if let Some(held) = &mut saved {
+        image::save(held, desk.part.array())?;
+    }
+    kept.as_mut().map_or(Ok(()), |held| held.save(&state::encode(&desk)))
 }
 
 /// The complaint of a refused frame.

@@ -1,90 +1,161 @@
-//! `oxterin serve`: the part behind a port that speaks the serial flasher protocol.
+//! `oxterin serve`: the part behind ports that speak the serial flasher protocol.
+mod bench;
+mod clock;
+mod counts;
+mod keeper;
+mod log;
+mod port;
+mod serprog;
+
 use crate::complaint::{complain, complaint, Complaint};
+use crate::desk::Desk;
+use crate::fresh::{PART_FLAGS, PART_HELP, PART_VALUED};
 use crate::image;
-use crate::lines::answered;
-use crate::options::{self, Given, PART_FLAGS, PART_HELP, PART_VALUED};
-use crate::serprog::{Frame, Programmer};
-use std::fs::File;
-use std::io::{self, BufReader, Write};
-use std::net::{Ipv4Addr, TcpListener, TcpStream};
+use crate::lines::counted;
+use crate::options::{self, Given};
+use crate::paths::apart;
+use crate::source::quoted;
+use crate::state::{self, STATE_HELP};
+use crate::whole::Kind;
+use bench::Bench;
+use counts::date;
+use keeper::Keeper;
+use log::Log;
+use oxterin::{Part, Record, Settings, Size};
+use oxterin_signals::{Awaited, Signal};
+use port::{Left, Port};
+use std::io::{self, Write};
+use std::sync::mpsc::{channel, Receiver, Sender};
+use std::sync::Arc;
+use std::thread;
+use std::time::{Duration, SystemTime};
 
 /// `oxterin serve --help`.
 pub fn help() -> String {
     format!(
         "\
-oxterin serve: the part behind the serprog protocol, for flashrom and other clients
+oxterin serve: the part behind the serprog protocol, for flashrom and other clients, billed by account
 
 Usage: oxterin serve [OPTIONS]
 
+Where clients come from, and who pays:
   --port N            the TCP port, at the loopback address only; 8025 (default), or 0 for any free one
-{PART_HELP}  --wp low|high       the level of WP; high is the default
-  --ticks-per-byte N  ticks that pass with each byte of a frame, 0 (default) to 1000
-  --save OUT          where the array is saved, as Intel HEX if the name ends in .hex or .ihex; OUT may be
-                      the --image file
-  --log FILE          a line for each frame
+  --account N         whose frames they are, 0 (default) to 255
+  --listen N=ACCOUNT  in place of the two: a port and whose frames come from it; once for each port
+  --idle SECONDS      a client that sends no frame for so long is hung up on; 60 is the default, 0 never
   --once              stop when the first client has left
 
-When the server is ready, it prints one line, 'listening on 127.0.0.1:PORT'. Then, for a part of 131,072
-bytes with flashrom 1.4 or later, and for one of 65,536 bytes:
+The part:
+{PART_HELP}{STATE_HELP}  --wp low|high       the level of WP; high is the default
+
+Time:
+  --clock             a tick is a microsecond of the machine's clock; or --clock=SPEED, so many ticks for each
+                      microsecond, such as 10 or 0.5
+  --ticks-per-byte N  ticks that pass with each byte of a frame, 0 (default) to 1000
+
+What is written:
+  --save OUT          the array, as Intel HEX if the name ends in .hex or .ihex; OUT may be the --image file
+  --log FILE          a line for each frame, added to FILE; oxterin bill FILE gives the bill
+  --json FILE         the same as JSON, an object a line, with output and ticks billed
+  --status FILE       counters to watch, in words
+
+When the server is ready, it prints a line for each port, 'listening on 127.0.0.1:PORT', with 'for account N' after it
+if that was said. Then, for a part of 131,072 bytes with flashrom 1.4 or later, and for one of 65,536 bytes:
 
   flashrom -p serprog:ip=127.0.0.1:PORT -c AT25DF011 ...
   flashrom -p serprog:ip=127.0.0.1:PORT -c AT25F512A ...
 
-Clients are served one after the other, and each finds the part as the one before left it. One SPI
-operation (13h) is one chip-select frame: the bytes sent, then a zero for each byte to be read. A frame
-has at most 8,192 bytes; a longer one is answered with NAK. Frames are billed to nobody: the server keeps
-no ledger.
+Clients of one port are served one after the other, and those of different ports at the same time. One SPI operation
+(13h) is one chip-select frame: the bytes sent, then a zero for each byte to be read. It reaches the part when the
+request is whole, so a client that stops in the middle of one keeps nobody waiting. A frame has at most 8,192 bytes; a
+longer one is answered with NAK. A connection whose first byte is no serprog command, such as a browser's, is hung up
+on, and so is one that later sends a byte above 15h in place of a command. There is no password: whoever may open a
+connection on this machine may send frames.
 
-Time passes by the clients' delays (0Eh, carried out by 0Fh): their microseconds are the ticks that elapse
-before the next frame, and nobody sleeps. Unless bytes take ticks, a client that waits for the end of an
-operation has to send delays between its status reads, as flashrom does.
+Busy ticks are billed to the account whose frame began the operation, whoever polls afterwards. oxterin bill --state
+FILE shows the bill at any time; oxterin bill LOG shows it from a log.
 
-With --ticks-per-byte time also passes while bytes are clocked, N ticks for each byte of every frame, so
-that a client that polls with chip select held low, by one long status read, sees busy fall. The clock that
-a client sets (14h) is not heeded: choose N for it, such as 8 for 1 MHz if a tick is a microsecond.
+What time is. Without --clock time passes by the clients' delays (0Eh, carried out by 0Fh): their microseconds are the
+ticks that elapse before the next frame of any client, and nobody sleeps. A client that waits for the end of an
+operation has to send delays between its status reads, as flashrom does. With --clock time passes by itself, so that a
+client that only polls sees busy fall, and a delay is really waited for. While no server runs, no time passes. With
+--ticks-per-byte time also passes while bytes are clocked, so that a client that polls with chip select held low, by
+one long status read, sees busy fall. The clock that a client sets (14h) is not heeded: choose N for it, such as 8 for
+1 MHz if a tick is a microsecond.
 
-OUT is written whole, beside the old one, which it then replaces, each time a client has left; before the
-port is announced the server makes sure that it can be written. A server that is ended while a client is
-there saves nothing more. The array alone is saved: the security register and the status bits last as
-long as the server.
+OUT and the state are saved whole, beside the old one, which is then replaced: when they have changed and no frame has
+come for a quarter of a second, when a client leaves, every five seconds under load, and on the way out. SIGTERM, SIGINT
+and SIGHUP end the server after that. OUT is made at once if it is missing. No other oxterin can save them meanwhile.
 
-A line of FILE has the bytes sent, what the output read, status byte 1 afterwards, the outcome, the first
-driven position and the number of driven positions, then the ticks elapsed before and those that the frame
-lasted, if any. Of a frame over 16 bytes the first 16 are shown, with its length at the end. A refused frame
-has its two lengths and the refusal.
+A line of the log is one that oxterin run takes: the bytes, +TICKS elapsed before it, @TICKS of each byte, wp=low,
+account=N, and as a comment status byte 1 afterwards and the outcome. A refused frame is a comment. FILE begins with the
+options that give the same bill. Logs are written in blocks, and when no frame has come for a quarter of a second.
+
+SIGUSR1 writes the counters to standard error: since when, frames, refusals by number, busy ticks, clients.
 "
     )
 }
 
 /// The port that is taken unless another is given.
 const PORT: u16 = 8025;
+/// The seconds of `--idle` unless others are given.
+const IDLE: f64 = 60.0;
 
 /// The options beside those of the part that take a value.
-const VALUED: [&str; 5] = ["--port", "--wp", "--ticks-per-byte", "--save", "--log"];
+const VALUED: [&str; 12] = [
+    "--port",
+    "--account",
+    "--listen",
+    "--idle",
+    "--state",
+    "--wp",
+    "--clock",
+    "--ticks-per-byte",
+    "--save",
+    "--log",
+    "--json",
+    "--status",
+];
 /// Those that take none.
-const FLAGS: [&str; 1] = ["--once"];
+const FLAGS: [&str; 2] = ["--once", "--clock"];
 
-/// Serves the part to one client after the other.
+/// What `--status` writes.
+const STATUS: Kind = Kind {
+    word: "page of counters",
+    such_as: "bench.status",
+};
+
+/// Serves the part to clients until the server is asked to end.
 pub fn serve(words: &[String]) -> Result<(), Complaint> {
     let given = read(words)?;
-    let mut programmer = Programmer::new(options::part(&given)?, options::wp_high(&given)?, options::ticks_per_byte(&given)?);
-    let listener = listen(port(&given)?)?;
-    let mut log = given.value("--log").map(Log::open).transpose()?;
-    given.value("--save").map_or(Ok(()), image::check)?;
-    announce(&listener)?;
-    loop {
-        let client = next(&listener)?;
-        let served = attend(&mut programmer, &client, &mut log);
-        let saved = save(&given, &programmer);
-        if let Err(error) = served {
-            warn(&parting(&error));
-        }
-        match saved {
-            saved if given.has("--once") => return saved,
-            Err(wrong) => warn(&wrong),
-            Ok(()) => {}
-        }
+    apart(&given, &[])?;
+    let (wp_high, ticks_per_byte) = (options::wp_high(&given)?, options::ticks_per_byte(&given)?);
+    let (idle, speed) = (idle(&given)?, speed(&given)?);
+    let wanted = wanted(&given)?;
+    let array = given.value("--save").map(image::hold).transpose()?;
+    let status = given.value("--status").map(|path| STATUS.hold(path)).transpose()?;
+    let (desk, state) = state::desk(&given)?;
+    let ports = wanted.iter().map(|door| door.open()).collect::<Result<Vec<_>, _>>()?;
+    let (lines, json) = (log(&given, "--log")?, log(&given, "--json")?);
+    let awaited = oxterin_signals::block();
+    let bench = Arc::new(Bench::new(desk, wp_high, ticks_per_byte, speed));
+    let keeper = Arc::new(Keeper::new(&bench, array, state, status)?);
+    keep_logs(&bench, lines, json);
+    announce(&wanted, &ports)?;
+    let (reasons, ended) = channel();
+    listen(awaited, &reasons);
+    let left = when_left(given.has("--once"), &reasons);
+    for port in ports {
+        open(port, &bench, idle, &left);
     }
+    let (files, watched) = (Arc::clone(&keeper), Arc::clone(&bench));
+    thread::spawn(move || Keeper::keep(&files, &watched));
+    let reason = wait(&ended, &bench);
+    let frames = Keeper::finish(&keeper, &bench)?;
+    if let Reason::Asked(signal) = reason {
+        complain(format!("ended by {signal} after {}; all is saved", counted(frames, "frame")));
+    }
+    Ok(())
 }
 
 /// The options, and nothing beside them.
@@ -98,202 +169,199 @@ fn read(words: &[String]) -> Result<Given, Complaint> {
     }
 }
 
-/// The port that the options name.
-fn port(given: &Given) -> Result<u16, Complaint> {
-    given.value("--port").map_or(Ok(PORT), |text| {
-        text.parse().map_err(|_| {
-            complaint(format!(
-                "--port {text}: a port is a number from 0 to 65535, and 0 takes any free one"
-            ))
-        })
-    })
+/// `--idle SECONDS`: how long a client may send no frame; for ever if there is no time.
+fn idle(given: &Given) -> Result<Option<Duration>, Complaint> {
+    let seconds = match given.value("--idle") {
+        Some(text) => decimal(text)
+            .filter(|seconds| *seconds <= 1e9)
+            .ok_or_else(|| complaint(format!("--idle {text}: a number of seconds, such as 60 or 0.5, and 0 for ever")))?,
+        None => IDLE,
+    };
+    Ok((seconds > 0.0).then(|| Duration::from_secs_f64(seconds)))
 }
 
-/// Takes the port, at the loopback address.
-fn listen(port: u16) -> Result<TcpListener, Complaint> {
-    TcpListener::bind((Ipv4Addr::LOCALHOST, port))
-        .map_err(|error| complaint(format!("port {port}: {error}; choose another with --port, or 0 for any free one")))
+/// `--clock` or `--clock=SPEED`: how many ticks pass with each microsecond of the machine's clock, if it is said.
+fn speed(given: &Given) -> Result<Option<f64>, Complaint> {
+    match given.value("--clock") {
+        Some(text) => decimal(text).filter(|speed| (1e-6..=1e6).contains(speed)).map(Some).ok_or_else(|| {
+            complaint(format!(
+                "--clock={text}: a number of ticks for each microsecond, from 0.000001 to 1000000, such as 10 or 0.5"
+            ))
+        }),
+        None => Ok(given.has("--clock").then_some(1.0)),
+    }
+}
+
+/// A number of digits with perhaps a point.
+fn decimal(text: &str) -> Option<f64> {
+    let plain = text.bytes().all(|byte| byte.is_ascii_digit() || byte == b'.');
+    text.parse().ok().filter(|_| plain)
+}
+
+/// A port that is asked for, and whose frames come from it.
+struct Door {
+    number: u16,
+    /// The account that was named, if any.
+    account: Option<u8>,
+    /// The words that asked for it.
+    words: String,
+}
+
+impl Door {
+    /// Takes the port.
+    fn open(&self) -> Result<Arc<Port>, Complaint> {
+        Port::open(self.number, self.account.unwrap_or(0)).map(Arc::new).map_err(|error| {
+            complaint(format!(
+                "{}: port {}: {error}; choose another, or 0 for any free one",
+                self.words, self.number
+            ))
+        })
+    }
+}
+
+/// The ports that the options ask for.
+fn wanted(given: &Given) -> Result<Vec<Door>, Complaint> {
+    let account = options::account(given)?;
+    let several: Vec<Door> = given.values("--listen").map(|text| door(text, account)).collect::<Result<_, _>>()?;
+    match (several.is_empty(), given.value("--port")) {
+        (false, None) => Ok(several),
+        (false, Some(port)) => Err(complaint(format!(
+            "--port {port} does not go with --listen; write --listen {port}=ACCOUNT"
+        ))),
+        (true, text) => {
+            let words = format!("--port {}", text.unwrap_or(&PORT.to_string()));
+            let number = text
+                .map_or(Some(PORT), |text| text.parse().ok())
+                .ok_or_else(|| complaint(format!("{words}: a port is a number from 0 to 65535, and 0 takes any free one")))?;
+            Ok(vec![Door { number, account, words }])
+        }
+    }
+}
+
+/// `--listen PORT=ACCOUNT`, or `--listen PORT` for the account that holds where none is said.
+fn door(text: &str, unsaid: Option<u8>) -> Result<Door, Complaint> {
+    let words = format!("--listen {text}");
+    let (port, account) = match text.split_once('=') {
+        Some((port, account)) => (port, Some(account)),
+        None => (text, None),
+    };
+    let number = port.parse().map_err(|_| {
+        complaint(format!(
+            "{words}: write PORT=ACCOUNT, such as 8025=20; a port is a number from 0 to 65535, and 0 takes any free one"
+        ))
+    })?;
+    let account = match account {
+        Some(account) => Some(options::account_of(account).ok_or_else(|| {
+            complaint(format!(
+                "{words}: an account is a number from 0 to 255 (refusal 9), such as 8025=20"
+            ))
+        })?),
+        None => unsaid,
+    };
+    Ok(Door { number, account, words })
+}
+
+/// The log that an option asks for.
+fn log(given: &Given, option: &'static str) -> Result<Option<Log>, Complaint> {
+    given.value(option).map(|path| Log::open(option, path)).transpose()
+}
+
+/// Begins the logs. The one that replays says with which options.
+fn keep_logs(bench: &Bench, lines: Option<Log>, json: Option<Log>) {
+    let mut shared = bench.lock();
+    let replay = replay(&shared.desk);
+    shared.lines = lines;
+    shared.json = json;
+    if let Some(log) = &mut shared.lines {
+        let path = quoted(log.path()).into_owned();
+        let line = match replay {
+            Some(options) => format!("# {}: a fresh part; the bill of what follows: oxterin bill {path}{options}", now()),
+            None => format!("# {}: goes on from a state", now()),
+        };
+        log.tell(|bytes| bytes.extend(line.as_bytes()));
+        log.flush();
+    }
+}
+
+/// The date and the time of day.
+fn now() -> String {
+    date(SystemTime::now())
+}
+
+/// The options that make a desk with which every frame is judged as with this one, if it is fresh. What the array holds does not matter: no
+/// decision and no bill comes from stored bytes.
+fn replay(desk: &Desk) -> Option<String> {
+    let Part { record, settings, .. } = &desk.part;
+    let size = Size::of_bytes(desk.part.array().len())?;
+    let mut fresh = Desk::new(desk.part.clone());
+    fresh.part.record = Record::fresh(record.bpl, record.bp0, record.otp_used);
+    if *desk != fresh {
+        return None;
+    }
+    let named = Settings::NAMES.iter().zip(settings.words()).zip(Settings::typical().words());
+    let changed = named.filter(|((_, ticks), typical)| ticks != typical);
+    let durations = changed.map(|((name, ticks), _)| format!(" --set {name}={ticks}"));
+    let flags = [(record.bpl, " --bpl"), (record.bp0, " --bp0"), (record.otp_used, " --otp-used")];
+    let flags = flags.into_iter().filter(|(set, _)| *set).map(|(_, flag)| flag.to_string());
+    let size = match size {
+        Size::Whole => String::new(),
+        size => format!(" --size {}", size.bytes()),
+    };
+    Some([size].into_iter().chain(durations).chain(flags).collect())
 }
 
 /// Says that clients may come, and where.
-fn announce(listener: &TcpListener) -> Result<(), Complaint> {
-    let mut output = io::stdout();
-    listener
-        .local_addr()
-        .and_then(|address| writeln!(output, "listening on {address}"))
-        .and_then(|()| output.flush())
+fn announce(wanted: &[Door], ports: &[Arc<Port>]) -> Result<(), Complaint> {
+    let lines = wanted.iter().zip(ports).map(|(door, port)| {
+        let whose = door.account.map_or_else(String::new, |account| format!(" for account {account}"));
+        port.address().map(|address| format!("listening on {address}{whose}\n"))
+    });
+    lines
+        .collect::<io::Result<String>>()
+        .and_then(|lines| io::stdout().write_all(lines.as_bytes()))
+        .and_then(|()| io::stdout().flush())
         .map_err(|error| complaint(format!("standard output: {error}")))
 }
 
-/// Waits for the next client. One that went away before it was let in is no client.
-fn next(listener: &TcpListener) -> Result<TcpStream, Complaint> {
+/// Why the server does something beside serving.
+enum Reason {
+    /// A signal has come.
+    Asked(Signal),
+    /// A client that was served has left, and was to be the only one.
+    Left,
+}
+
+/// Hands signals on.
+fn listen(awaited: Awaited, reasons: &Sender<Reason>) {
+    let reasons = reasons.clone();
+    thread::spawn(move || while reasons.send(Reason::Asked(awaited.next())).is_ok() {});
+}
+
+/// Lets clients in at a port.
+fn open(port: Arc<Port>, bench: &Arc<Bench>, idle: Option<Duration>, left: &Left) {
+    let (bench, left) = (Arc::clone(bench), Arc::clone(left));
+    thread::spawn(move || port.serve(&bench, idle, &left));
+}
+
+/// What is done when a client has left: nothing, unless it was to be the only one.
+fn when_left(once: bool, reasons: &Sender<Reason>) -> Left {
+    let reasons = reasons.clone();
+    Arc::new(move || {
+        if once {
+            let _ = reasons.send(Reason::Left); // nobody hears it if the server is ending already
+        }
+    })
+}
+
+/// Waits for a reason to end. Asked how it is, the server says so.
+fn wait(reasons: &Receiver<Reason>, bench: &Bench) -> Reason {
     loop {
-        match listener.accept() {
-            Ok((client, _)) => return Ok(client),
-            Err(error) if error.kind() == io::ErrorKind::ConnectionAborted => {}
-            Err(error) => return Err(complaint(format!("waiting for a client: {error}"))),
-        }
-    }
-}
-
-/// Serves a client until it leaves. It is an error to leave in the middle of a request, or before the reply.
-fn attend(programmer: &mut Programmer, mut client: &TcpStream, log: &mut Option<Log>) -> io::Result<()> {
-    client.set_nodelay(true)?;
-    programmer.welcome();
-    let mut requests = BufReader::new(client);
-    while let Some(reply) = programmer.reply(&mut requests)? {
-        if let (Some(log), Some(frame)) = (log.as_mut(), &reply.frame) {
-            log.tell(frame);
-        }
-        client.write_all(&reply.bytes)?;
-    }
-    Ok(())
-}
-
-/// How a client was lost.
-fn parting(error: &io::Error) -> Complaint {
-    let how = match error.kind() {
-        io::ErrorKind::UnexpectedEof => "it left in the middle of a request".to_string(),
-        _ => error.to_string(),
-    };
-    complaint(format!("a client was lost: {how}; the part waits for the next one"))
-}
-
-/// Saves the array where `--save` says.
-fn save(given: &Given, programmer: &Programmer) -> Result<(), Complaint> {
-    given
-        .value("--save")
-        .map_or(Ok(()), |path| image::keep(path, programmer.part().array()))
-}
-
-/// Says on standard error what went wrong; the server lives.
-fn warn(wrong: &Complaint) {
-    complain(wrong);
-}
-
-/// A file with a line for each frame.
-struct Log {
-    path: String,
-    /// None once a line could not be written.
-    file: Option<File>,
-}
-
-impl Log {
-    /// Begins an empty log.
-    fn open(path: &str) -> Result<Log, Complaint> {
-        let file = File::create(path).map_err(|error| complaint(format!("--log {path}: {error}; name a file that can be written")))?;
-        Ok(Log {
-            path: path.to_string(),
-            file: Some(file),
-        })
-    }
-
-    /// Adds the line of a frame.
-    fn tell(&mut self, frame: &Frame) {
-        if let Some(file) = &mut self.file {
-            if let Err(error) = file.write_all(line(frame).as_bytes()) {
-                warn(&complaint(format!(
-                    "--log {}: {error}; the log ends here, the part is served on",
-                    self.path
-                )));
-                self.file = None;
+        match reasons.recv().unwrap_or(Reason::Left) {
+            Reason::Asked(Signal::Status) => {
+                let shared = bench.lock();
+                complain(format!("at {}\n{}", now(), shared.counts.page(&shared.desk).trim_end()));
             }
+            reason => return reason,
         }
-    }
-}
-
-/// How many bytes of a frame its line shows.
-const SHOWN: usize = 16;
-
-/// The line of a frame.
-fn line(frame: &Frame) -> String {
-    match frame {
-        Frame::Taken {
-            input,
-            elapsed,
-            lasted,
-            exchange,
-            status,
-        } => {
-            let shown = input.len().min(SHOWN);
-            let bytes = answered(&input[..shown], &exchange.output[..shown], *status);
-            let answer = exchange.answer;
-            let mut words = format!("{bytes} {} {} {}", answer.outcome, answer.first, answer.driven);
-            if *elapsed > 0 {
-                words += &format!(" after {elapsed} ticks");
-            }
-            if *lasted > 0 {
-                words += &format!(" lasting {lasted} ticks");
-            }
-            if shown < input.len() {
-                words += &format!(" ({} bytes)", input.len());
-            }
-            words + "\n"
-        }
-        Frame::Refused { sent, read, refusal } => format!("{sent} bytes sent, {read} to be read: {refusal}\n"),
-    }
-}
-
-#[cfg(test)]
-mod tests {
-    use super::*;
-    use oxterin::{Part, Refusal, Signals, Size};
-
-    /// The line of a frame that a blank part takes.
-    fn taken(input: &[u8], elapsed: u64, ticks_per_byte: u64) -> String {
-        let mut part = Part::blank(Size::Whole);
-        let signals = Signals {
-            elapsed,
-            ..Signals::whole(input).with_ticks_per_byte(ticks_per_byte)
-        };
-        let exchange = part.frame(input, signals).expect("the part takes it");
-        let status = part.status(true)[0];
-        line(&Frame::Taken {
-            input: input.to_vec(),
-            elapsed,
-            lasted: signals.frame_ticks(),
-            exchange,
-            status,
-        })
-    }
-
-    #[test]
-    fn lines_have_bytes_status_outcome_and_driven_positions() {
-        assert_eq!(taken(&[0x06], 0, 0), "06 > FF ST 12 control 0 0\n");
-        assert_eq!(taken(&[0x05, 0x00], 7, 0), "05 00 > FF 10 ST 10 read 1 1 after 7 ticks\n");
-        assert_eq!(taken(&[], 0, 0), "> ST 10 nothing 0 0\n");
-    }
-
-    #[test]
-    fn lines_have_the_ticks_that_a_frame_lasted() {
-        assert_eq!(taken(&[0x06], 0, 8), "06 > FF ST 12 control 0 0 lasting 8 ticks\n");
-        assert_eq!(
-            taken(&[0x05, 0x00], 7, 8),
-            "05 00 > FF 10 ST 10 read 1 1 after 7 ticks lasting 16 ticks\n"
-        );
-        assert_eq!(taken(&[], 0, 8), "> ST 10 nothing 0 0\n");
-    }
-
-    #[test]
-    fn long_frames_are_shown_in_part() {
-        let mut input = [0; 17];
-        input[0] = 0x03;
-        assert_eq!(
-            taken(&input, 0, 0),
-            "03 00 00 00 00 00 00 00 00 00 00 00 00 00 00 00 > FF FF FF FF FF FF FF FF FF FF FF FF FF FF FF FF ST 10 read 4 13 (17 bytes)\n"
-        );
-    }
-
-    #[test]
-    fn refused_frames_have_their_refusal() {
-        let refused = Frame::Refused {
-            sent: 8_193,
-            read: 0,
-            refusal: Refusal::InputLength,
-        };
-        assert_eq!(
-            line(&refused),
-            "8193 bytes sent, 0 to be read: refusal 3: a frame has at most 8,192 bytes\n"
-        );
     }
 }

@@ -1,7 +1,7 @@
 //! Where bytes come from, and commands that put them right, spelled for the shell.
 use crate::complaint::{complaint, Complaint};
 use std::borrow::Cow;
-use std::fs;
+use std::fs::{self, File};
 use std::io::{self, Read};
 
 /// The word of the command line that stands for standard input or output.
@@ -33,19 +33,24 @@ impl<'a> Source<'a> {
         }
     }
 
-    /// All of its bytes.
+    /// All of its bytes, which are at most [`MOST`].
     pub fn read(self) -> Result<Vec<u8>, Complaint> {
         let bytes = match self {
-            Source::File(path) => fs::read(path),
-            Source::Input => {
-                let mut bytes = Vec::new();
-                io::stdin().lock().read_to_end(&mut bytes).map(|_| bytes)
-            }
+            Source::File(path) => File::open(path).and_then(up_to_most),
+            Source::Input => up_to_most(io::stdin().lock()),
         };
-        bytes.map_err(|error| complaint(format!("{}: {error}", self.name())))
+        let bytes = bytes.map_err(|error| complaint(format!("{}: {error}", self.name())))?;
+        match bytes.len() as u64 > MOST {
+            true => Err(complaint(format!(
+                "{}: more than {} MiB, which no image has; name another file",
+                self.name(),
+                MOST >> 20
+            ))),
+            false => Ok(bytes),
+        }
     }
 
-    /// A command with this source as its input and a new file of this ending as its output; behind standard input it is a filter.
+    /// A command with this source as its input and a new file of this ending as its output; after standard input it is a filter.
     pub fn filtered(self, command: &str, ending: &str) -> String {
         match self {
             Source::File(path) => format!("{command} <{} >{}", quoted(path), self.fresh(ending)),
@@ -53,7 +58,7 @@ impl<'a> Source<'a> {
         }
     }
 
-    /// A command with two words for files behind it: this source, and a new file of this ending.
+    /// A command with two words for files after it: this source, and a new file of this ending.
     pub fn turned(self, command: &str, ending: &str) -> String {
         format!("{command} {} {}", self.word(), self.fresh(ending))
     }
@@ -80,6 +85,16 @@ impl<'a> Source<'a> {
     }
 }
 
+/// No image, raw or as text, has more bytes: 64 MiB, some 500 times the largest array.
+const MOST: u64 = 1 << 26;
+
+/// The first bytes, one more than [`MOST`] if there are so many.
+fn up_to_most(source: impl Read) -> io::Result<Vec<u8>> {
+    let mut bytes = Vec::new();
+    source.take(MOST + 1).read_to_end(&mut bytes)?;
+    Ok(bytes)
+}
+
 /// The name of a file of this ending in the current folder, at which nothing is, not even a link that leads nowhere.
 pub fn fresh(ending: &str) -> String {
     untaken(ending, |name| fs::symlink_metadata(name).is_ok())
@@ -97,7 +112,7 @@ fn untaken(ending: &str, taken: impl Fn(&str) -> bool) -> String {
 }
 
 /// A path as one word of a shell's command line, never an option, nor what srec_cat takes for a file of arguments.
-fn quoted(path: &str) -> Cow<'_, str> {
+pub fn quoted(path: &str) -> Cow<'_, str> {
     let plain = |c: char| c.is_ascii_alphanumeric() || "/._-+,:@%".contains(c);
     let path: Cow<'_, str> = match path.starts_with(['-', '@']) {
         true => format!("./{path}").into(),

@@ -1,6 +1,7 @@
 //! A bill as a table for a terminal, and as comma-separated values.
+use crate::desk::{All, Desk};
 use crate::lines::{counted, thousands};
-use crate::tally::{All, End, Tally};
+use crate::tally::{End, Tally};
 use oxterin::Line;
 
 /// The columns before the bar.
@@ -18,13 +19,17 @@ struct Row {
 
 /// The table with a row for each account and one for all, what is still running, and how many frames and ticks there were.
 pub fn table(tally: &Tally) -> String {
-    let accounts = tally.accounts();
-    let all = tally.all();
-    let bill = match accounts.is_empty() {
+    let Tally { desk, .. } = tally;
+    format!("{}{}\n{}", accounts(desk), still_running(tally), counts(desk))
+}
+
+/// A row for each account and one for all.
+pub fn accounts(desk: &Desk) -> String {
+    let accounts = desk.accounts();
+    match accounts.is_empty() {
         true => "Nothing was billed to anyone: no frame began an operation.\n".to_string(),
-        false => rows(&accounts, all),
-    };
-    format!("{bill}{}\n{}", still_running(tally), counts(tally, all))
+        false => rows(&accounts, desk.all()),
+    }
 }
 
 /// The rows under their heads.
@@ -76,10 +81,10 @@ fn bar(total: u64, largest: u64) -> String {
 fn still_running(tally: &Tally) -> String {
     match tally.operations.last() {
         Some(last) if last.end == End::Running => format!(
-            "\nStill running: account {}'s {} of line {}, billed so far for {} of its {}.\n",
+            "\nStill running: account {}'s {}{}, billed so far for {} of its {}.\n",
             last.account,
             last.name(),
-            last.line,
+            last.begun.map_or_else(String::new, |begun| format!(" of line {}", begun.line)),
             thousands(last.billed),
             counted(last.duration, "tick")
         ),
@@ -88,11 +93,11 @@ fn still_running(tally: &Tally) -> String {
 }
 
 /// How many frames were sent, how many ticks passed, and for how many of them the part was busy.
-fn counts(tally: &Tally, all: All) -> String {
+fn counts(desk: &Desk) -> String {
     let counts = [
-        ("frames sent", thousands(tally.frames)),
-        ("ticks passed", thousands(tally.passed)),
-        ("of them busy", thousands(all.total)),
+        ("frames sent", thousands(desk.frames)),
+        ("ticks passed", thousands(desk.passed())),
+        ("of them busy", thousands(desk.all().total)),
     ];
     let width = counts.iter().map(|(_, number)| number.len()).max().unwrap_or(0);
     let line = |(what, number): &(&str, String)| format!("{what:<12}{GAP}{number:>width$}\n");
@@ -100,9 +105,9 @@ fn counts(tally: &Tally, all: All) -> String {
 }
 
 /// The bill as comma-separated values: a line of heads, then one for each account, in numbers without commas of their own.
-pub fn csv(tally: &Tally) -> String {
+pub fn csv(desk: &Desk) -> String {
     let line = |(account, line): (u8, Line)| format!("{account},{},{},{}\n", line.total, line.most, line.number);
-    let lines: String = tally.accounts().into_iter().map(line).collect();
+    let lines: String = desk.accounts().into_iter().map(line).collect();
     format!("account,total,most,operations\n{lines}")
 }
 

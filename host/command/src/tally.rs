@@ -2,7 +2,7 @@
 use crate::desk::Desk;
 use crate::frames::Frame;
 use crate::lines::counted;
-use oxterin::{Line, Outcome, Part};
+use oxterin::Outcome;
 use std::collections::BTreeMap;
 
 /// The opcode of a status read.
@@ -10,14 +10,13 @@ const STATUS_READ: u8 = 0x05;
 
 /// A run of frames, as far as it has come.
 pub struct Tally {
-    desk: Desk,
-    /// How many frames were sent.
-    pub frames: u64,
-    /// How many ticks passed, before the frames and with their bytes.
-    pub passed: u128,
+    /// The part with its books.
+    pub desk: Desk,
+    /// Whether the books had frames before this run.
+    pub goes_on: bool,
     /// Whether all operations are kept.
     keeps_all: bool,
-    /// What was begun, in the order of the frames; the last alone unless all are kept.
+    /// What was begun, in the order of the frames; the last alone unless all are kept. The first may be one that was running before.
     pub operations: Vec<Operation>,
 }
 
@@ -25,10 +24,8 @@ pub struct Tally {
 pub struct Operation {
     /// Whose frame began it.
     pub account: u8,
-    /// The number of the frame's line.
-    pub line: usize,
-    /// How many ticks had passed at the frame's end.
-    pub begun: u128,
+    /// Where and when; none if that was before this run.
+    pub begun: Option<Begun>,
     /// The frame's first bytes.
     pub first: Vec<u8>,
     /// How many bytes the frame has.
@@ -41,6 +38,15 @@ pub struct Operation {
     pub end: End,
     /// Who sent frames while it ran.
     pub meanwhile: BTreeMap<u8, Meanwhile>,
+}
+
+/// Where and when an operation began.
+#[derive(Clone, Copy, Debug, PartialEq, Eq)]
+pub struct Begun {
+    /// The number of its frame's line.
+    pub line: usize,
+    /// The tick at the frame's end.
+    pub tick: u128,
 }
 
 /// What became of an operation.
@@ -63,37 +69,23 @@ pub struct Meanwhile {
     pub others: u64,
 }
 
-/// What all accounts were billed.
-#[derive(Clone, Copy, Debug, Default, PartialEq, Eq)]
-pub struct All {
-    /// The sum of their totals.
-    pub total: u128,
-    /// The most for one operation.
-    pub most: u64,
-    /// How many operations they began.
-    pub number: u128,
-}
-
 impl Tally {
-    /// No frame has been sent to this part. All operations are kept if a page is to list them, and else the last alone.
-    pub fn new(part: Part, keeps_all: bool) -> Tally {
+    /// No frame of the run has been sent yet. All operations are kept if a page is to list them, and else the last alone.
+    pub fn new(desk: Desk, keeps_all: bool) -> Tally {
         Tally {
-            desk: Desk::new(part),
-            frames: 0,
-            passed: 0,
+            goes_on: desk.frames > 0,
+            operations: Operation::running(&desk).into_iter().collect(),
             keeps_all,
-            operations: Vec::new(),
+            desk,
         }
     }
 
     /// Sends the frame of a line. If it is refused nothing changes, and the words say why.
     pub fn send(&mut self, line: usize, frame: &Frame) -> Result<(), String> {
-        let found_busy = self.desk.part.record.busy > frame.signals.elapsed;
+        let found_busy = self.desk.part.record.busy > self.desk.signals(frame).elapsed;
         let sent = self.desk.send(frame)?;
         let left = self.desk.part.record.busy;
         let begins = sent.exchange.answer.outcome == Outcome::Begun;
-        self.frames += 1;
-        self.passed += u128::from(frame.signals.elapsed) + u128::from(frame.signals.frame_ticks());
         if let Some(running) = self.operations.last_mut().filter(|last| last.end == End::Running) {
             running.billed += sent.billed.map_or(0, |billed| billed.ticks);
             if found_busy {
@@ -107,24 +99,10 @@ impl Tally {
             if !self.keeps_all {
                 self.operations.clear();
             }
-            self.operations.push(Operation::begun(line, frame, self.passed, left));
+            let tick = self.desk.tick;
+            self.operations.push(Operation::begun(Begun { line, tick }, frame, left));
         }
         Ok(())
-    }
-
-    /// The accounts that began an operation or were billed anything, with their lines of the ledger.
-    pub fn accounts(&self) -> Vec<(u8, Line)> {
-        let lines = self.desk.ledger.lines();
-        lines.filter(|(_, line)| line.number > 0 || line.total > 0).collect()
-    }
-
-    /// What all accounts were billed, which is every tick for which the part was busy.
-    pub fn all(&self) -> All {
-        self.accounts().into_iter().fold(All::default(), |all, (_, line)| All {
-            total: all.total + u128::from(line.total),
-            most: all.most.max(line.most),
-            number: all.number + u128::from(line.number),
-        })
     }
 }
 
@@ -132,13 +110,12 @@ impl Operation {
     /// Of a frame so many bytes are kept.
     const KEPT: usize = 8;
 
-    /// What the frame of a line began, with the ticks passed so far and those that it takes.
-    fn begun(line: usize, frame: &Frame, passed: u128, duration: u64) -> Operation {
+    /// What a frame began, with the ticks that it takes.
+    fn begun(begun: Begun, frame: &Frame, duration: u64) -> Operation {
         let length = frame.input.len();
         Operation {
             account: frame.account(),
-            line,
-            begun: passed,
+            begun: Some(begun),
             first: frame.input[..length.min(Operation::KEPT)].to_vec(),
             length,
             duration,
@@ -146,6 +123,22 @@ impl Operation {
             end: End::Running,
             meanwhile: BTreeMap::new(),
         }
+    }
+
+    /// What is running for an account at a desk before a run.
+    fn running(desk: &Desk) -> Option<Operation> {
+        let (left, running) = (desk.part.record.busy, desk.ledger.running);
+        let account = running.owner().filter(|_| left > 0)?;
+        Some(Operation {
+            account,
+            begun: None,
+            first: Vec::new(),
+            length: 0,
+            duration: running.billed.saturating_add(left),
+            billed: running.billed,
+            end: End::Running,
+            meanwhile: BTreeMap::new(),
+        })
     }
 
     /// What became of it, now that it no longer runs.
@@ -165,7 +158,8 @@ impl Operation {
             Some(0x52 | 0xD8) => "32-KiB erase".into(),
             Some(0x60 | 0x62 | 0xC7) => "chip erase".into(),
             Some(0x9B) => "OTP program".into(),
-            _ => "status write".into(),
+            Some(_) => "status write".into(),
+            None => "operation begun earlier".into(),
         }
     }
 }
@@ -202,7 +196,8 @@ impl End {
 #[cfg(test)]
 mod tests {
     use super::*;
-    use oxterin::{Signals, Size};
+    use crate::desk::All;
+    use oxterin::{Part, Signals, Size};
 
     /// Sends frames in lines 1, 2 and so on: whose, its bytes, the ticks elapsed before it. All operations are kept.
     fn tally(frames: &[(u8, &[u8], u64)]) -> Tally {
@@ -211,7 +206,13 @@ mod tests {
 
     /// The same, with all operations kept or the last alone.
     fn sent(frames: &[(u8, &[u8], u64)], keeps_all: bool) -> Tally {
-        let mut tally = Tally::new(Part::blank(Size::Small), keeps_all);
+        let mut tally = Tally::new(Desk::new(Part::blank(Size::Small)), keeps_all);
+        send(&mut tally, frames);
+        tally
+    }
+
+    /// Sends more frames.
+    fn send(tally: &mut Tally, frames: &[(u8, &[u8], u64)]) {
         for (line, (account, input, elapsed)) in frames.iter().enumerate() {
             let signals = Signals {
                 elapsed: *elapsed,
@@ -224,7 +225,11 @@ mod tests {
             };
             tally.send(line + 1, &frame).expect("it is accepted");
         }
-        tally
+    }
+
+    /// The line of the frame that began an operation.
+    fn line(operation: &Operation) -> Option<usize> {
+        operation.begun.map(|begun| begun.line)
     }
 
     #[test]
@@ -260,15 +265,16 @@ mod tests {
         ];
         let early = tally(&frames[..4]);
         let erase = &early.operations[0];
-        assert_eq!((erase.billed, erase.end, erase.begun), (20_000, End::Running, 15));
+        assert_eq!((erase.billed, erase.end), (20_000, End::Running));
+        assert_eq!(erase.begun, Some(Begun { line: 2, tick: 15 }));
         let late = tally(&frames);
         let erase = &late.operations[0];
-        assert_eq!((late.operations.len(), erase.account, erase.line), (1, 7, 2));
+        assert_eq!((late.operations.len(), erase.account, line(erase)), (1, 7, Some(2)));
         assert_eq!((erase.billed, erase.duration, erase.end), (50_000, 50_000, End::Finished));
         let poll = Meanwhile { polls: 1, others: 0 };
         let ignored = Meanwhile { polls: 0, others: 1 };
         assert_eq!(erase.meanwhile, BTreeMap::from([(7, ignored), (12, poll)]));
-        assert_eq!((late.frames, late.passed), (5, 50_015));
+        assert_eq!((late.desk.frames, late.desk.passed()), (5, 50_015));
     }
 
     #[test]
@@ -282,9 +288,12 @@ mod tests {
         ];
         let (all, last) = (sent(&frames, true), sent(&frames, false));
         assert_eq!((all.operations.len(), last.operations.len()), (2, 1));
-        assert_eq!((all.accounts(), all.all()), (last.accounts(), last.all()));
+        assert_eq!(all.desk, last.desk);
         let erase = &last.operations[0];
-        assert_eq!((erase.account, erase.line, erase.billed, erase.end), (12, 4, 6_999, End::Running));
+        assert_eq!(
+            (erase.account, line(erase), erase.billed, erase.end),
+            (12, Some(4), 6_999, End::Running)
+        );
     }
 
     #[test]
@@ -302,7 +311,7 @@ mod tests {
         ]);
         let ends: Vec<End> = tally.operations.iter().map(|operation| operation.end).collect();
         assert_eq!(ends, [End::Finished, End::Finished, End::Stopped]);
-        for (account, line) in tally.accounts() {
+        for (account, line) in tally.desk.accounts() {
             let own = || tally.operations.iter().filter(|operation| operation.account == account);
             assert_eq!(line.total, own().map(|operation| operation.billed).sum::<u64>());
             assert_eq!(line.most, own().map(|operation| operation.billed).max().unwrap_or(0));
@@ -313,7 +322,25 @@ mod tests {
             most: 1_599_999,
             number: 3,
         };
-        assert_eq!(tally.all(), wanted);
-        assert_eq!(tally.passed, 2 * u128::from(u64::MAX) + 15 + 1_599_999);
+        assert_eq!(tally.desk.all(), wanted);
+        assert_eq!(tally.desk.passed(), 2 * u128::from(u64::MAX) + 15 + 1_599_999);
+    }
+
+    /// Account 7's 4-KiB erase takes 50,000 ticks, of which 20,000 pass in a first run; in a second one the rest.
+    #[test]
+    fn what_runs_before_a_run_is_billed_on() {
+        let first = tally(&[(7, &[0x06], 0), (7, &[0x20, 0, 0, 0], 0), (12, &[0x05, 0], 20_000)]);
+        let mut second = Tally::new(first.desk.clone(), true);
+        let erase = &second.operations[0];
+        assert_eq!(
+            (erase.account, erase.begun, erase.billed, erase.duration),
+            (7, None, 20_000, 50_000)
+        );
+        assert_eq!(erase.name(), "operation begun earlier");
+        send(&mut second, &[(12, &[0x05, 0], 40_000)]);
+        let erase = &second.operations[0];
+        assert_eq!((second.operations.len(), erase.billed, erase.end), (1, 50_000, End::Finished));
+        assert_eq!((second.desk.ledger.totals[7], second.desk.frames), (50_000, 4));
+        assert!(second.goes_on && !first.goes_on);
     }
 }

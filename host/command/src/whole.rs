@@ -1,8 +1,14 @@
-//! Files that are written whole or not at all.
+//! Files that are written whole or not at all, and by one process at a time.
+//!
+//! What is saved goes to a new file beside the old one, which then takes its name. Whoever is going to save a file holds a lock on it; the
+//! lock is on the file itself, so each new one is locked before it takes the name.
 use crate::complaint::{complaint, Complaint};
-use std::ffi::OsString;
-use std::fs::{self, File};
-use std::io::{self, Write};
+use std::ffi::{OsStr, OsString};
+use std::fs::{self, File, OpenOptions, Permissions, TryLockError};
+use std::hash::{BuildHasher, RandomState};
+use std::io::{self, ErrorKind, Write};
+use std::os::unix::ffi::OsStrExt;
+use std::os::unix::fs::{fchown, MetadataExt, OpenOptionsExt, PermissionsExt};
 use std::path::{is_separator, Path, PathBuf};
 
 /// What a file is to hold, in the words of complaints.
@@ -14,27 +20,44 @@ pub struct Kind {
     pub such_as: &'static str,
 }
 
-impl Kind {
-    /// Whether such a file could be saved there, without touching what is there.
-    pub fn check(self, path: &str) -> Result<(), Complaint> {
-        let place = self.place(path)?;
-        File::create(&place.new)
-            .and_then(|_| fs::remove_file(&place.new))
-            .map_err(|error| complaint(format!("{path}: {error}; name a file in a folder that can be written")))
-    }
+/// A file that this process alone is going to save.
+pub struct Held {
+    /// The path that was given.
+    path: String,
+    /// Where it leads, links followed.
+    place: PathBuf,
+    /// The file that is there, locked; none as long as there is no file.
+    there: Option<File>,
+}
 
-    /// Puts the bytes in the place of the file's content: they go to a new file beside it, which then takes its name and its permissions.
-    /// If that fails, what was there is as it was.
-    pub fn save(self, path: &str, bytes: &[u8]) -> Result<(), Complaint> {
+impl Kind {
+    /// Takes hold of a file, having made sure that it can be saved, without touching what is there. What an earlier process left beside it
+    /// when it was killed is removed.
+    pub fn hold(self, path: &str) -> Result<Held, Complaint> {
         let place = self.place(path)?;
-        place.write(bytes).map_err(|error| {
-            let _ = fs::remove_file(&place.new);
-            complaint(format!("{path}: {error}; what was there is as it was"))
+        sweep(&place);
+        let there = lock(&place).map_err(|wrong| complaint(format!("{path}: {wrong}")))?;
+        if there
+            .as_ref()
+            .is_some_and(|file| file.metadata().is_ok_and(|old| old.permissions().readonly()))
+        {
+            return Err(complaint(format!(
+                "{path}: a read-only file, so no {} is saved there; make it writable, or name another",
+                self.word
+            )));
+        }
+        New::beside(&place, 0o600)
+            .map(drop)
+            .map_err(|error| complaint(format!("{path}: {error}; name a file in a folder that can be written")))?;
+        Ok(Held {
+            path: path.to_string(),
+            place,
+            there,
         })
     }
 
     /// The place that a path names. Devices, pipes and folders are none, nor are words that can name nothing but a folder.
-    fn place(self, path: &str) -> Result<Place, Complaint> {
+    fn place(self, path: &str) -> Result<PathBuf, Complaint> {
         let Kind { word, such_as } = self;
         let file = behind_links(path).ok_or_else(|| complaint(format!("{path}: a link that leads to itself; name a file")))?;
         if fs::metadata(&file).is_ok_and(|there| !there.is_file()) {
@@ -47,33 +70,147 @@ impl Kind {
                 "{path:?} is not the name of a file, so no {word} is saved there; name a file, such as {such_as}"
             )));
         }
-        let new = beside(&file);
-        Ok(Place { file, new })
+        Ok(file)
     }
 }
 
-/// Where a file goes.
-struct Place {
-    /// The file itself, links followed.
-    file: PathBuf,
-    /// A name in the same folder that no other process uses.
-    new: PathBuf,
+impl Held {
+    /// The path that was given.
+    pub fn path(&self) -> &str {
+        &self.path
+    }
+
+    /// Whether there is a file already.
+    pub fn exists(&self) -> bool {
+        self.there.is_some()
+    }
+
+    /// Whether the file has these bytes.
+    pub fn holds(&self, bytes: &[u8]) -> bool {
+        let as_long = self.there.as_ref().and_then(|file| file.metadata().ok());
+        as_long.is_some_and(|there| there.len() == bytes.len() as u64) && fs::read(&self.place).is_ok_and(|there| there == bytes)
+    }
+
+    /// Puts the bytes in the place of the file's content: they go to a new file beside it, which then takes its name, owner and permissions.
+    /// If that fails, what was there is as it was.
+    pub fn save(&mut self, bytes: &[u8]) -> Result<(), Complaint> {
+        let saved = self.replace(bytes);
+        let new = saved.map_err(|error| match error.kind() {
+            ErrorKind::AlreadyExists => complaint(format!(
+                "{}: another process made this file meanwhile; it is as that one left it",
+                self.path
+            )),
+            _ => complaint(format!("{}: {error}; what was there is as it was", self.path)),
+        })?;
+        self.there = Some(new);
+        sync_folder(&self.place).map_err(|error| {
+            complaint(format!(
+                "{}: {error}; it is saved, but may be lost if the machine fails now",
+                self.path
+            ))
+        })
+    }
+
+    /// The new file, with the name of the old one.
+    fn replace(&self, bytes: &[u8]) -> io::Result<File> {
+        let old = self.there.as_ref().map(File::metadata).transpose()?;
+        let mode = old.as_ref().map_or(0o666, |old| old.mode() & 0o7777);
+        let mut new = New::beside(&self.place, mode)?;
+        if let Some(old) = old {
+            let _ = fchown(&new.file, Some(old.uid()), Some(old.gid())); // only root may give files away
+            new.file.set_permissions(Permissions::from_mode(mode))?;
+        }
+        new.file.write_all(bytes)?;
+        new.file.sync_all()?;
+        match self.there {
+            Some(_) => new.rename(&self.place),
+            None => new.link(&self.place),
+        }
+    }
 }
 
-impl Place {
-    fn write(&self, bytes: &[u8]) -> io::Result<()> {
-        let mut new = File::create(&self.new)?;
-        if let Ok(old) = fs::metadata(&self.file) {
-            new.set_permissions(old.permissions())?;
+/// A new file beside another, locked, so that nobody sweeps it away. It is removed unless it takes the other's name.
+struct New {
+    path: PathBuf,
+    file: File,
+    kept: bool,
+}
+
+impl New {
+    /// How many names are tried.
+    const TRIES: usize = 100;
+
+    /// An empty file that was not there before, at a name that nobody can tell beforehand.
+    fn beside(place: &Path, mode: u32) -> io::Result<New> {
+        for _ in 0..New::TRIES {
+            let path = place.with_file_name(name_beside(place, RandomState::new().hash_one(())));
+            let file = match OpenOptions::new().write(true).create_new(true).mode(mode).open(&path) {
+                Err(error) if error.kind() == ErrorKind::AlreadyExists => continue,
+                opened => opened?,
+            };
+            let new = New { path, file, kept: false };
+            if new.file.try_lock().is_ok() && is_at(&new.file, &new.path) {
+                return Ok(new);
+            }
         }
-        new.write_all(bytes)?;
-        new.sync_all()?;
-        fs::rename(&self.new, &self.file)
+        Err(io::Error::other("no name is free beside it"))
+    }
+
+    /// Takes the name of the file that is there.
+    fn rename(mut self, place: &Path) -> io::Result<File> {
+        fs::rename(&self.path, place)?;
+        self.kept = true;
+        self.file.try_clone()
+    }
+
+    /// Takes a name at which no file is. Where a file cannot have two names at a time, it is renamed.
+    fn link(self, place: &Path) -> io::Result<File> {
+        match fs::hard_link(&self.path, place) {
+            Ok(()) => self.file.try_clone(),
+            Err(error) if error.kind() == ErrorKind::AlreadyExists => Err(error),
+            Err(_) => self.rename(place),
+        }
+    }
+}
+
+impl Drop for New {
+    fn drop(&mut self) {
+        if !self.kept {
+            let _ = fs::remove_file(&self.path);
+        }
+    }
+}
+
+/// The file at a place, locked; none if there is no file. The words say why it cannot be had.
+fn lock(place: &Path) -> Result<Option<File>, String> {
+    loop {
+        let file = match File::open(place) {
+            Err(error) if error.kind() == ErrorKind::NotFound => return Ok(None),
+            Err(error) => return Err(format!("{error}; name a file that can be read and written")),
+            Ok(file) => file,
+        };
+        match file.try_lock() {
+            Ok(()) if is_at(&file, place) => return Ok(Some(file)),
+            Ok(()) => {} // it was replaced meanwhile
+            Err(TryLockError::WouldBlock) => {
+                return Err("another oxterin is using this file; end that one first, or name another file".into())
+            }
+            Err(TryLockError::Error(error)) => return Err(format!("it cannot be locked: {error}; name a file in another folder")),
+        }
+    }
+}
+
+/// Whether an open file is still the one at a place.
+fn is_at(file: &File, place: &Path) -> bool {
+    let identity = |there: fs::Metadata| (there.dev(), there.ino());
+    match (file.metadata(), fs::symlink_metadata(place)) {
+        (Ok(open), Ok(there)) => identity(open) == identity(there),
+        _ => false,
     }
 }
 
 /// What a path leads to if it is a link, and a link to a link, whether or not there is something; none if that never ends.
-fn behind_links(path: &str) -> Option<PathBuf> {
+pub fn behind_links(path: &str) -> Option<PathBuf> {
     const MOST: usize = 40;
     let mut file = PathBuf::from(path);
     for _ in 0..MOST {
@@ -85,9 +222,70 @@ fn behind_links(path: &str) -> Option<PathBuf> {
     None
 }
 
-/// A name in the folder of a file that no other process uses.
-fn beside(path: &Path) -> PathBuf {
-    let mut name = path.file_name().map_or_else(OsString::new, OsString::from);
-    name.push(format!(".new-{}", std::process::id()));
-    path.with_file_name(name)
+/// The folder of a file.
+pub fn folder_of(place: &Path) -> &Path {
+    match place.parent() {
+        Some(folder) if folder != Path::new("") => folder,
+        _ => Path::new("."),
+    }
+}
+
+/// Makes sure that the folder of a file knows its new name even if the machine fails.
+fn sync_folder(place: &Path) -> io::Result<()> {
+    File::open(folder_of(place))?.sync_all()
+}
+
+/// What stands between the name of a file and the number of a new one beside it.
+const NEW: &[u8] = b".new-";
+/// How many hexadecimal digits that number has.
+const DIGITS: usize = 16;
+
+/// The name of a new file beside another.
+fn name_beside(place: &Path, number: u64) -> OsString {
+    let mut name = place.file_name().unwrap_or_default().to_os_string();
+    name.push(OsStr::from_bytes(NEW));
+    name.push(format!("{number:0DIGITS$x}"));
+    name
+}
+
+/// Whether a name is that of a new file beside another.
+fn is_beside(name: &OsStr, place: &Path) -> bool {
+    let own = place.file_name().unwrap_or_default().as_bytes();
+    let number = name.as_bytes().strip_prefix(own).and_then(|rest| rest.strip_prefix(NEW));
+    number.is_some_and(|number| number.len() == DIGITS && number.iter().all(u8::is_ascii_hexdigit))
+}
+
+/// Removes what killed processes left beside a file: new files that nobody has locked. What cannot be removed stays.
+fn sweep(place: &Path) {
+    let Ok(entries) = fs::read_dir(folder_of(place)) else { return };
+    for entry in entries.flatten().filter(|entry| is_beside(&entry.file_name(), place)) {
+        let is_file = entry.file_type().is_ok_and(|kind| kind.is_file());
+        let left = is_file && File::open(entry.path()).is_ok_and(|file| file.try_lock().is_ok());
+        if left {
+            let _ = fs::remove_file(entry.path());
+        }
+    }
+}
+
+#[cfg(test)]
+mod tests {
+    use super::*;
+
+    #[test]
+    fn a_new_file_is_told_by_its_name() {
+        let place = Path::new("a/flash.bin");
+        assert!(is_beside(&name_beside(place, 7), place));
+        assert_eq!(name_beside(place, 0x5A), "flash.bin.new-000000000000005a");
+        for other in [
+            "flash.bin",
+            "flash.bin.new-",
+            "flash.bin.new-5a",
+            "flash.bin.new-000000000000005g",
+            "flash.bin.new-000000000000005a0",
+            "other.bin.new-000000000000005a",
+            "flash.binx.new-000000000000005a",
+        ] {
+            assert!(!is_beside(OsStr::new(other), place), "{other}");
+        }
+    }
 }

@@ -269,7 +269,7 @@ fn a_bill_takes_the_options_of_a_run() {
 
 #[test]
 fn a_bad_line_names_its_place_and_there_is_no_bill() {
-    let remedy = "behind account= stands, with no blank between, whose frame it is, from 0 to 255 (refusal 9), such as account=7";
+    let remedy = "after account= comes, with no blank between, whose frame it is, from 0 to 255 (refusal 9), such as account=7";
     for account in ["256", "", "-1", "x", "1,2", "18446744073709551616"] {
         let frames = format!("06 account=255\n05 00 account={account}\n");
         let wanted = format!("standard input, line 2, column 7: account={account}: {remedy}");
@@ -280,7 +280,7 @@ fn a_bad_line_names_its_place_and_there_is_no_bill() {
     }
     assert_eq!(
         complaint(&["bill"], "06 acount=7\n"),
-        "standard input, line 1, column 4: acount=7: of words with = there are wp=low, wp=high and account=, behind which stands a number, \
+        "standard input, line 1, column 4: acount=7: of words with = there are wp=low, wp=high and account=, after which comes a number, \
          such as account=7"
     );
     assert_eq!(
@@ -326,7 +326,7 @@ fn wrong_words_are_complained_of_with_a_remedy() {
         (&["bill", "--html", "/dev/null"], "not a plain file, so no page is saved there"),
         (&["bill", "--html", "."], "name a file"),
         (&["bill", "--html", ""], "so no page is saved there; name a file, such as bill.html"),
-        (&["bills"], "there are session, run, bill, serve and hex"),
+        (&["bills"], "there are session, run, bill, serve, state and hex"),
     ] {
         let complaint = complaint(words, "06\n");
         assert!(complaint.contains(remedy), "{words:?}: {complaint}");
@@ -340,10 +340,12 @@ fn a_page_never_takes_the_place_of_its_frames() {
     fs::write(&frames, long_day()).expect("written");
     let out = folder.join("..").join("itself").join("day.frames");
     let complaint = complaint(&["bill", word(&frames), "--html", word(&out)], "");
-    assert!(
-        complaint.ends_with("the frames come from that file; name another, such as bill.html"),
-        "{complaint}"
+    let wanted = format!(
+        "the frames {} and --html {} are the same file; name another for one of them",
+        word(&frames),
+        word(&out)
     );
+    assert_eq!(complaint, wanted);
     assert_eq!(fs::read_to_string(&frames).expect("there"), long_day());
 }
 
@@ -354,10 +356,12 @@ fn a_page_never_takes_the_place_of_its_image() {
     fs::write(&image, [0xA5; 65_536]).expect("written");
     let out = folder.join("..").join("image").join("image.bin");
     let complaint = complaint(&["bill", "--image", word(&image), "--html", word(&out)], long_day());
-    assert!(
-        complaint.ends_with("the image comes from that file; name another, such as bill.html"),
-        "{complaint}"
+    let wanted = format!(
+        "--image {} and --html {} are the same file; name another for one of them",
+        word(&image),
+        word(&out)
     );
+    assert_eq!(complaint, wanted);
     assert!(fs::read(&image).expect("there") == [0xA5; 65_536]);
     assert_eq!(files(&folder), ["image.bin"]);
 }

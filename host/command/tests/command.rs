@@ -93,7 +93,7 @@ fn ticks_of_a_byte_that_are_too_many_name_their_place() {
     let output = oxterin(&["run"], "06 @1000\n05 00 @1001\n");
     assert_eq!(
         complained(&output),
-        "oxterin: standard input, line 2, column 7: @1001: behind @ stands, with no blank between, the number of ticks \
+        "oxterin: standard input, line 2, column 7: @1001: after @ comes, with no blank between, the number of ticks \
          that each byte takes, at most 1,000 (refusal 8), such as @8\n"
     );
     assert_eq!(said(&output), "06 > FF ST 12\n");
@@ -175,7 +175,7 @@ fn a_refused_frame_ends_the_run() {
 #[test]
 fn wrong_words_are_complained_of_with_a_remedy() {
     for (words, remedy) in [
-        (&["rum"][..], "there are session, run, bill, serve and hex"),
+        (&["rum"][..], "there are session, run, bill, serve, state and hex"),
         (&["session", "now"], "takes nothing"),
         (&["run", "--sise", "1"], "--help"),
         (&["run", "--size"], "wants a value"),

@@ -1,152 +1,21 @@
 //! `oxterin serve` as its clients see it: the built command, its port, and the serial flasher protocol spoken by hand.
+mod common;
+
+use common::server::{command, operation, refusal, until, Server, ACK, NAK};
+use common::word;
 use std::fs;
-use std::io::{BufRead, BufReader, ErrorKind, Read, Write};
-use std::net::{Shutdown, TcpStream};
+use std::io::{ErrorKind, Read};
+use std::net::Shutdown;
 use std::path::{Path, PathBuf};
-use std::process::{Child, Command, Output, Stdio};
+use std::process::Output;
 use std::time::Duration;
 
-/// The request was carried out.
-const ACK: u8 = 0x06;
-/// The request was not carried out.
-const NAK: u8 = 0x15;
 /// The whole array, erased.
 static BLANK: [u8; 131_072] = [0xFF; 131_072];
 
-/// A running server, ended with the test.
-struct Server {
-    process: Child,
-    port: u16,
-}
-
-impl Server {
-    /// Starts a server at a free port and waits until it says which.
-    fn start(options: &[&str]) -> Server {
-        let mut process = command(&["--port", "0"])
-            .args(options)
-            .stdout(Stdio::piped())
-            .stderr(Stdio::null())
-            .spawn()
-            .expect("the command starts");
-        let mut line = String::new();
-        let output = process.stdout.take().expect("standard output is a pipe");
-        BufReader::new(output).read_line(&mut line).expect("a line");
-        let port = line
-            .strip_prefix("listening on 127.0.0.1:")
-            .unwrap_or_else(|| panic!("'{line}' is not the line of a server that is ready"));
-        let port = port.trim_end().parse().expect("the line ends with a port");
-        Server { process, port }
-    }
-
-    /// A new client.
-    fn client(&self) -> Client {
-        let stream = TcpStream::connect(("127.0.0.1", self.port)).expect("the server listens");
-        stream.set_read_timeout(Some(Duration::from_secs(20))).expect("a timeout");
-        stream.set_nodelay(true).expect("no delay");
-        Client { stream }
-    }
-
-    /// Whether the server ends by itself, and well.
-    fn ends_well(&mut self) -> bool {
-        await_end(&mut self.process);
-        self.process.wait().expect("the server has ended").success()
-    }
-}
-
-impl Drop for Server {
-    fn drop(&mut self) {
-        let _ = self.process.kill();
-        let _ = self.process.wait();
-    }
-}
-
-/// A client of the server; it leaves when it is dropped.
-struct Client {
-    stream: TcpStream,
-}
-
-impl Client {
-    /// Sends bytes.
-    fn send(&mut self, bytes: &[u8]) {
-        self.stream.write_all(bytes).expect("the server reads");
-    }
-
-    /// Asserts that the next bytes from the server are these.
-    fn expect(&mut self, bytes: &[u8]) {
-        let mut answer = vec![0; bytes.len()];
-        self.stream.read_exact(&mut answer).expect("the server answers");
-        assert_eq!(answer, bytes);
-    }
-
-    /// Asserts the whole answer to a request: behind it comes that of a following synchronisation, and no other byte.
-    fn ask(&mut self, request: &[u8], answer: &[u8]) {
-        self.send(request);
-        self.send(&[0x10]);
-        self.expect(&[answer, &[NAK, ACK]].concat());
-    }
-
-    /// A frame: these bytes sent, then those to be read.
-    fn frame(&mut self, sent: &[u8], read: &[u8]) {
-        let request = [&operation(sent.len(), read.len())[..], sent].concat();
-        self.ask(&request, &[&[ACK], read].concat());
-    }
-
-    /// Lets ticks pass.
-    fn wait(&mut self, ticks: u32) {
-        self.ask(&[&[0x0E], &ticks.to_le_bytes()[..]].concat(), &[ACK]);
-        self.ask(&[0x0F], &[ACK]);
-    }
-}
-
-/// The command with these words behind `serve`.
-fn command(words: &[&str]) -> Command {
-    let mut command = Command::new(env!("CARGO_BIN_EXE_oxterin"));
-    command.arg("serve").args(words);
-    command
-}
-
-/// Waits until a process ends by itself; one that does not is killed.
-fn await_end(process: &mut Child) {
-    for _ in 0..1_000 {
-        if process.try_wait().expect("the process was started here").is_some() {
-            return;
-        }
-        std::thread::sleep(Duration::from_millis(20));
-    }
-    process.kill().expect("the process was still there");
-}
-
-/// What becomes of a server that is not to start.
-fn refusal(words: &[&str]) -> (Option<i32>, String) {
-    let mut process = command(words)
-        .stdout(Stdio::piped())
-        .stderr(Stdio::piped())
-        .spawn()
-        .expect("the command starts");
-    await_end(&mut process);
-    let Output { status, stdout, stderr } = process.wait_with_output().expect("the command has ended");
-    assert_eq!(stdout, b"");
-    (status.code(), String::from_utf8(stderr).expect("the complaint is text"))
-}
-
-/// The head of an `O_SPIOP`.
-fn operation(sent: usize, read: usize) -> [u8; 7] {
-    let [s0, s1, s2, ..] = sent.to_le_bytes();
-    let [r0, r1, r2, ..] = read.to_le_bytes();
-    [0x13, s0, s1, s2, r0, r1, r2]
-}
-
 /// An empty folder for a test's files.
 fn folder(name: &str) -> PathBuf {
-    let folder = Path::new(env!("CARGO_TARGET_TMPDIR")).join(name);
-    let _ = fs::remove_dir_all(&folder);
-    fs::create_dir_all(&folder).expect("a folder");
-    folder
-}
-
-/// A path as a word of the command line.
-fn word(path: &Path) -> &str {
-    path.to_str().expect("the path is text")
+    common::folder("serve", name)
 }
 
 #[test]
@@ -187,14 +56,12 @@ fn settings_of_the_programmer_have_their_answers() {
 fn commands_that_are_not_served_are_refused_with_their_parameters() {
     let server = Server::start(&[]);
     let mut client = server.client();
+    client.ask(&[0x00], &[ACK]);
     client.ask(&[0x06], &[NAK]);
     client.ask(&[0x09, 0x00, 0x00, 0x00], &[NAK]);
     client.ask(&[0x0A, 0x00, 0x00, 0x00, 0x04, 0x00, 0x00], &[NAK]);
     client.ask(&[0x0C, 0x00, 0x00, 0x00, 0x55], &[NAK]);
     client.ask(&[0x0D, 0x03, 0x00, 0x00, 0x00, 0x00, 0x00, 0x11, 0x22, 0x33], &[NAK]);
-    for command in 0x16..=0xFF {
-        client.ask(&[command], &[NAK]);
-    }
 }
 
 #[test]
@@ -447,11 +314,9 @@ fn the_image_is_saved_whole_when_a_client_has_left() {
     client.frame(&[0x06], &[]);
     client.frame(&[0x02, 0x00, 0x12, 0x34, 0x3C], &[]);
     drop(client);
-    let mut next = server.client();
-    next.ask(&[0x00], &[ACK]); // so the save is over, and another waits until this client leaves
     let mut wanted = vec![0xF0; 65_536];
     wanted[0x1234] = 0x30;
-    assert_eq!(fs::read(&out).expect("saved"), wanted);
+    assert!(until(|| (fs::read(&out).expect("a file") == wanted).then_some(())).is_some());
     assert_eq!(fs::read(&image).expect("the first image"), vec![0xF0; 65_536]);
     assert_eq!(fs::read_dir(&folder).expect("the folder").count(), 2);
 }
@@ -507,6 +372,15 @@ fn once_serves_a_single_client_and_saves_over_its_own_image() {
     assert_eq!(saved[131_071..], [0x00]);
 }
 
+/// The lines of a log that has begun, less the first, which names the options for the same bill.
+fn lines_after(log: &Path, options: &str) -> String {
+    let text = fs::read_to_string(log).expect("a log");
+    let (first, rest) = text.split_once('\n').expect("a first line");
+    let wanted = format!("oxterin bill {}{options}", word(log));
+    assert!(first.starts_with("# 20") && first.ends_with(&wanted), "{first}");
+    rest.to_string()
+}
+
 #[test]
 fn the_log_has_a_line_for_each_frame() {
     let log = folder("log").join("log");
@@ -518,42 +392,49 @@ fn the_log_has_a_line_for_each_frame() {
     client.frame(&[0x05], &[0x11, 0x01]);
     client.ask(&operation(0, 8_193), &[NAK]);
     client.wait(13);
-    client.frame(&[0x03, 0x00, 0x00, 0x00], &[&[0x11, 0x22][..], &[0xFF; 98]].concat());
+    client.frame(&[0x03, 0x00, 0x00, 0x00], &[&[0x11, 0x22][..], &[0xFF; 14]].concat());
     client.frame(&[0x81, 0x00, 0x00, 0x00], &[]);
+    client.frame(&[], &[]);
     drop(client);
     assert!(server.ends_well());
     let wanted = "\
-06 > FF ST 12 control 0 0
-02 00 00 00 11 22 > FF FF FF FF FF FF ST 11 begun 0 0
-05 00 00 > FF 11 01 ST 11 read 1 2 after 7 ticks
-0 bytes sent, 8193 to be read: refusal 3: a frame has at most 8,192 bytes
-03 00 00 00 00 00 00 00 00 00 00 00 00 00 00 00 > FF FF FF FF 11 22 FF FF FF FF FF FF FF FF FF FF ST 10 read 4 100 after 13 ticks (104 bytes)
-81 00 00 00 > FF FF FF FF ST 10 nothing 0 0
+06 account=0 # ST 12 control
+02 00 00 00 11 22 account=0 # ST 11 begun
+05 00 00 +7 account=0 # ST 11 read
+# refused: 0 bytes sent, 8193 to be read: refusal 3: a frame has at most 8,192 bytes; account=0
+03 00 00 00 00 00 00 00 00 00 00 00 00 00 00 00 00 00 00 00 +13 account=0 # ST 10 read
+81 00 00 00 account=0 # ST 10 nothing
+/0 account=0 # ST 10 nothing
 ";
-    assert_eq!(fs::read_to_string(&log).expect("a log"), wanted);
+    assert_eq!(lines_after(&log, " --set longer-program=20"), wanted);
 }
 
 #[test]
-fn the_log_has_the_ticks_that_frames_lasted() {
+fn the_log_has_the_ticks_of_a_byte_and_the_level_of_wp() {
     let log = folder("lasting").join("log");
-    let mut server = Server::start(&["--once", "--log", word(&log), "--set", "longer-program=20", "--ticks-per-byte", "8"]);
+    let words = [
+        "--once",
+        "--log",
+        word(&log),
+        "--size=65536",
+        "--bp0",
+        "--ticks-per-byte",
+        "8",
+        "--wp",
+        "low",
+    ];
+    let mut server = Server::start(&[&words[..], &["--account", "9"]].concat());
     let mut client = server.client();
     client.frame(&[0x06], &[]);
-    client.frame(&[0x02, 0x00, 0x00, 0x00, 0x11, 0x22], &[]);
     client.wait(7);
-    client.frame(&[0x05], &[0x11, 0x00]);
-    client.frame(&[], &[]);
-    client.frame(&[0x03, 0x00, 0x00, 0x00], &[&[0x11, 0x22][..], &[0xFF; 14]].concat());
+    client.frame(&[0x02, 0x00, 0x00, 0x00, 0x11, 0x22], &[]);
     drop(client);
     assert!(server.ends_well());
     let wanted = "\
-06 > FF ST 12 control 0 0 lasting 8 ticks
-02 00 00 00 11 22 > FF FF FF FF FF FF ST 11 begun 0 0 lasting 48 ticks
-05 00 00 > FF 11 00 ST 10 read 1 2 after 7 ticks lasting 24 ticks
-> ST 10 nothing 0 0
-03 00 00 00 00 00 00 00 00 00 00 00 00 00 00 00 > FF FF FF FF 11 22 FF FF FF FF FF FF FF FF FF FF ST 10 read 4 16 lasting 160 ticks (20 bytes)
+06 @8 wp=low account=9 # ST 06 control
+02 00 00 00 11 22 +7 @8 wp=low account=9 # ST 04 aborted
 ";
-    assert_eq!(fs::read_to_string(&log).expect("a log"), wanted);
+    assert_eq!(lines_after(&log, " --size 65536 --bp0"), wanted);
 }
 
 #[test]
@@ -589,13 +470,13 @@ fn a_port_in_use_is_named_and_the_log_of_its_server_stays() {
     let log = folder.join("log");
     let server = Server::start(&["--log", word(&log)]);
     server.client().frame(&[0x06], &[]);
-    let (code, complaint) = refusal(&["--port", &server.port.to_string(), "--log", word(&log)]);
+    let (code, complaint) = refusal(&["--port", &server.ports[0].to_string(), "--log", word(&log)]);
     assert_eq!(code, Some(2));
     assert!(
-        complaint.contains(&format!("port {}", server.port)) && complaint.contains("--port"),
+        complaint.contains(&format!("port {}", server.ports[0])) && complaint.contains("--port"),
         "{complaint}"
     );
-    assert_eq!(fs::read_to_string(&log).expect("a log"), "06 > FF ST 12 control 0 0\n");
+    assert!(until(|| (lines_after(&log, "") == "06 account=0 # ST 12 control\n").then_some(())).is_some());
 }
 
 #[test]
@@ -603,7 +484,8 @@ fn help_is_printed() {
     let Output { status, stdout, .. } = command(&["--help"]).output().expect("the command starts");
     assert!(status.success());
     let text = String::from_utf8(stdout).expect("text");
-    for option in "--port --size --image --set --bpl --bp0 --otp-used --wp --ticks-per-byte --save --log --once".split(' ') {
+    for option in "--port --account --listen --idle --once --size --image --set --bpl --bp0 --otp-used --state --wp --clock --ticks-per-byte --save --log \
+                   --json --status".split(' ') {
         assert!(text.contains(&format!(" {option} ")), "{option}");
     }
 }

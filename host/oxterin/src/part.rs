@@ -82,6 +82,9 @@ pub struct Part {
 }
 
 impl Part {
+    /// How many bytes the security register has.
+    pub const REGISTER: usize = 128;
+
     /// A blank part: every byte FFh, the register's too, nothing protected, typical durations.
     #[must_use]
     pub fn blank(size: Size) -> Part {
@@ -100,10 +103,42 @@ impl Part {
         }
     }
 
+    /// A part that goes on where another stopped: with its array, its security register, its record and its settings.
+    ///
+    /// ```
+    /// use oxterin::{Part, Size};
+    ///
+    /// let mut part = Part::blank(Size::Small);
+    /// part.send(&[0x06])?;
+    /// part.send(&[0x9B, 0x00, 0x00, 0x00, 0x5A])?; // the register's first byte, once and for all
+    /// let again = Part::resumed(part.array().to_vec(), part.register().to_vec(), part.record, part.settings)?;
+    /// assert_eq!(again, part);
+    /// assert!(again.record.otp_used && again.record.busy == 400);
+    /// # Ok::<(), oxterin::Refusal>(())
+    /// ```
+    ///
+    /// # Errors
+    ///
+    /// The array or the register has a wrong length: refusal 1 or 2. A record or settings out of range are refused with each frame.
+    pub fn resumed(array: Vec<u8>, register: Vec<u8>, record: Record, settings: Settings) -> Result<Part, Refusal> {
+        if Size::of_bytes(array.len()).is_none() {
+            return Err(Refusal::ArrayLength);
+        }
+        if register.len() != Part::REGISTER {
+            return Err(Refusal::RegisterLength);
+        }
+        Ok(Part {
+            array,
+            register,
+            record,
+            settings,
+        })
+    }
+
     fn holding(array: Vec<u8>) -> Part {
         Part {
             array,
-            register: vec![0xFF; 128],
+            register: vec![0xFF; Part::REGISTER],
             record: Record::fresh(false, false, false),
             settings: Settings::typical(),
         }

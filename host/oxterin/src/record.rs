@@ -82,6 +82,22 @@ impl Record {
         ]
     }
 
+    /// The record of these words; none if a flag is neither 0 nor 1, or there is no such mode.
+    ///
+    /// ```
+    /// use oxterin::Record;
+    ///
+    /// let record = Record::fresh(true, false, true);
+    /// assert_eq!(Record::from_words(&record.words()), Some(record));
+    /// assert_eq!(Record::from_words(&[0, 0, 2, 0, 0, 0, 0]), None);
+    /// assert_eq!(Record::from_words(&[0, 0, 0, 0, 0, 3, 0]), None);
+    /// ```
+    #[must_use]
+    pub fn from_words(words: &[u64; raw::RECORD]) -> Option<Record> {
+        let record = Record::of_words(words);
+        (record.words() == *words).then_some(record)
+    }
+
     #[inline]
     pub(crate) fn of_words(words: &[u64; raw::RECORD]) -> Record {
         Record {

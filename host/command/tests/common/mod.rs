@@ -1,5 +1,7 @@
 //! What the tests of the command share: running it, what it says or complains of, and folders for files.
 #![allow(dead_code)] // each file of tests uses a part of this
+pub mod server;
+
 use std::fs;
 use std::io::Write;
 use std::path::{Path, PathBuf};

@@ -1,0 +1,171 @@
+//! Saves what a server has to save: when it has changed and the clients are quiet, and on the way out.
+use super::bench::{Bench, Shared};
+use crate::complaint::{complain, Complaint};
+use crate::whole::Held;
+use crate::{image, state};
+use std::mem;
+use std::sync::{Mutex, PoisonError};
+use std::time::{Duration, Instant};
+
+/// So long nothing has to happen for a moment to be quiet.
+const QUIET: Duration = Duration::from_millis(250);
+/// Logs and counters are no older than this, however busy the server is.
+const OFTEN: Duration = Duration::from_secs(1);
+/// Array and state are no older than this, however busy the server is. A save that failed is tried again after it.
+const SELDOM: Duration = Duration::from_secs(5);
+
+/// The files of a server.
+pub struct Keeper {
+    array: Option<Kept>,
+    state: Option<Kept>,
+    status: Option<Kept>,
+    /// What tells whether the desk has changed since it was saved.
+    mark: Option<Mark>,
+    /// When it was saved last.
+    saved: Instant,
+    /// When the counters were saved last.
+    told: Instant,
+}
+
+/// Frames accepted and ticks that wait for the next: a desk changes with one of them.
+type Mark = (u64, u64);
+
+/// A file that is saved from time to time.
+struct Kept {
+    held: Held,
+    /// What it holds, if that is known.
+    holds: Option<Vec<u8>>,
+    /// What was complained of when it could not be saved.
+    wrong: Option<Complaint>,
+}
+
+impl Kept {
+    /// Saves the bytes, unless the file holds them already.
+    fn save(&mut self, bytes: Vec<u8>) -> Result<(), Complaint> {
+        if self.holds.as_ref() == Some(&bytes) {
+            return Ok(());
+        }
+        self.holds = None;
+        self.held.save(&bytes)?;
+        self.holds = Some(bytes);
+        self.wrong = None;
+        Ok(())
+    }
+
+    /// Saves the bytes, unless they are in the file in truth.
+    fn save_at_last(&mut self, bytes: &[u8]) -> Result<(), Complaint> {
+        match self.held.holds(bytes) {
+            true => Ok(()),
+            false => self.held.save(bytes),
+        }
+    }
+
+    /// Saves the bytes. If that fails it is said once, and answered.
+    fn try_save(&mut self, bytes: Vec<u8>) -> bool {
+        match self.save(bytes) {
+            Ok(()) => true,
+            Err(wrong) => {
+                if self.wrong.as_ref() != Some(&wrong) {
+                    complain(&wrong);
+                }
+                self.wrong = Some(wrong);
+                false
+            }
+        }
+    }
+}
+
+impl Keeper {
+    /// The keeper of these files. An array's file that is not there yet is made at once, and the page of counters is written.
+    pub fn new(bench: &Bench, array: Option<Held>, state: Option<Held>, status: Option<Held>) -> Result<Mutex<Keeper>, Complaint> {
+        let shared = bench.lock();
+        let desk = &shared.desk;
+        let kept = |held, holds| Kept { held, holds, wrong: None };
+        let mut keeper = Keeper {
+            array: array.map(|held| kept(held, None)),
+            state: state.map(|held| kept(held, Some(state::encode(desk)))),
+            status: status.map(|held| kept(held, None)),
+            mark: None,
+            saved: Instant::now(),
+            told: Instant::now(),
+        };
+        if let Some(kept) = &mut keeper.array {
+            let bytes = image::written(kept.held.path(), desk.part.array());
+            match kept.held.exists() {
+                true => kept.holds = kept.held.holds(&bytes).then_some(bytes),
+                false => kept.save(bytes)?,
+            }
+        }
+        if let Some(kept) = &mut keeper.status {
+            kept.save(shared.counts.page(desk).into_bytes())?;
+        }
+        Ok(Mutex::new(keeper))
+    }
+
+    /// Saves as long as the server runs.
+    pub fn keep(keeper: &Mutex<Keeper>, bench: &Bench) -> ! {
+        let mut again = None;
+        loop {
+            let quiet = bench.wait(QUIET, OFTEN, again);
+            let mut keeper = keeper.lock().unwrap_or_else(PoisonError::into_inner);
+            again = keeper.cycle(bench, quiet);
+        }
+    }
+
+    /// Saves what has changed, if it is time to. Answers when something is to be tried again, though nothing happens.
+    fn cycle(&mut self, bench: &Bench, quiet: bool) -> Option<Duration> {
+        let mut shared = bench.lock();
+        shared.flush();
+        let page = self.status.as_ref().map(|_| shared.counts.page(&shared.desk));
+        let mark = mark(&shared);
+        let due = self.mark != Some(mark) && (quiet || self.saved.elapsed() >= SELDOM);
+        let desk = (due && (self.array.is_some() || self.state.is_some())).then(|| bench.snapshot(&shared));
+        drop(shared);
+        let mut again = None;
+        if let Some(desk) = desk {
+            let array = self.array.as_mut();
+            let array = array.is_none_or(|kept| kept.try_save(image::written(kept.held.path(), desk.part.array())));
+            let state = self.state.as_mut().is_none_or(|kept| kept.try_save(state::encode(&desk)));
+            self.saved = Instant::now();
+            match array && state {
+                true => self.mark = Some(mark),
+                false => again = Some(SELDOM),
+            }
+        } else if self.mark != Some(mark) {
+            again = Some(SELDOM);
+        }
+        if let (Some(kept), Some(page)) = (&mut self.status, page) {
+            if self.told.elapsed() >= OFTEN {
+                kept.try_save(page.into_bytes());
+                self.told = Instant::now();
+            } else {
+                again = Some(OFTEN);
+            }
+        }
+        again
+    }
+
+    /// Saves everything a last time, and lets nobody touch the part any more. Answers how many frames there were.
+    pub fn finish(keeper: &Mutex<Keeper>, bench: &Bench) -> Result<u64, Complaint> {
+        let mut keeper = keeper.lock().unwrap_or_else(PoisonError::into_inner);
+        let mut shared = bench.lock();
+        shared.flush();
+        let desk = bench.snapshot(&shared);
+        let (page, frames) = (shared.counts.page(&desk), shared.counts.frames());
+        let Keeper { array, state, status, .. } = &mut *keeper;
+        let saved = [
+            array
+                .as_mut()
+                .map(|kept| kept.save_at_last(&image::written(kept.held.path(), desk.part.array()))),
+            state.as_mut().map(|kept| kept.save_at_last(&state::encode(&desk))),
+            status.as_mut().map(|kept| kept.save_at_last(page.as_bytes())),
+        ];
+        mem::forget((shared, keeper)); // the clients' threads wait from now on until the process has ended
+        saved.into_iter().flatten().collect::<Result<(), Complaint>>().map(|()| frames)
+    }
+}
+
+/// What tells whether the desk has changed.
+fn mark(shared: &Shared) -> Mark {
+    (shared.counts.frames(), shared.desk.waiting)
+}

@@ -1,0 +1,304 @@
+//! What a server writes down of its frames: lines that `oxterin run` and `oxterin bill` read, and JSON.
+use crate::complaint::{complain, complaint, Complaint};
+use crate::desk::{Billed, Sent};
+use oxterin::{Refusal, Signals};
+use std::fs::{File, OpenOptions};
+use std::io::{Read, Seek, SeekFrom, Write};
+
+/// A file that grows by lines, written in blocks.
+pub struct Log {
+    /// The option by which it was asked for.
+    option: &'static str,
+    path: String,
+    /// None once it could not be written.
+    file: Option<File>,
+    block: Vec<u8>,
+}
+
+/// A block is written when it has so many bytes.
+const BLOCK: usize = 1 << 16;
+
+impl Log {
+    /// Goes on with the file at a path, or begins one. What is there stays.
+    pub fn open(option: &'static str, path: &str) -> Result<Log, Complaint> {
+        let wrong = |words: String| complaint(format!("{option} {path}: {words}"));
+        let mut file = OpenOptions::new()
+            .read(true)
+            .append(true)
+            .create(true)
+            .open(path)
+            .map_err(|error| wrong(format!("{error}; name a file that can be read and written")))?;
+        if !ends_whole(&mut file).map_err(|error| wrong(error.to_string()))? {
+            return Err(wrong(
+                "its last line has no end; end or remove that line first, or name another file".into(),
+            ));
+        }
+        Ok(Log {
+            option,
+            path: path.to_string(),
+            file: Some(file),
+            block: Vec::new(),
+        })
+    }
+
+    /// The file's path.
+    pub fn path(&self) -> &str {
+        &self.path
+    }
+
+    /// Adds a line.
+    pub fn tell(&mut self, line: impl FnOnce(&mut Vec<u8>)) {
+        if self.file.is_some() {
+            line(&mut self.block);
+            self.block.push(b'\n');
+            if self.block.len() >= BLOCK {
+                self.flush();
+            }
+        }
+    }
+
+    /// Writes what is not written yet. If that fails the log ends, and the part is served on.
+    pub fn flush(&mut self) {
+        if let Some(file) = &mut self.file {
+            if let Err(error) = file.write_all(&self.block) {
+                complain(format!(
+                    "{} {}: {error}; the log ends here, the part is served on",
+                    self.option, self.path
+                ));
+                self.file = None;
+            }
+            self.block.clear();
+        }
+    }
+}
+
+/// Whether a file is empty, ends with the end of a line, or is no plain file.
+fn ends_whole(file: &mut File) -> std::io::Result<bool> {
+    let there = file.metadata()?;
+    if !there.is_file() || there.len() == 0 {
+        return Ok(true);
+    }
+    let mut last = [0];
+    file.seek(SeekFrom::End(-1))?;
+    file.read_exact(&mut last)?;
+    Ok(last == *b"\n")
+}
+
+/// A frame that the part accepted, as it is written down.
+pub struct Told<'a> {
+    /// The tick at its end.
+    pub tick: u128,
+    /// Whose it is.
+    pub account: u8,
+    /// Its bytes.
+    pub input: &'a [u8],
+    /// What went with them.
+    pub signals: Signals,
+    /// What came of it.
+    pub sent: &'a Sent,
+    /// Status byte 1 afterwards.
+    pub status: u8,
+}
+
+impl Told<'_> {
+    /// Its line for `run` and `bill`; the answer is a comment.
+    pub fn line(&self, line: &mut Vec<u8>) {
+        let Signals {
+            elapsed,
+            ticks_per_byte,
+            wp_high,
+            ..
+        } = self.signals;
+        match self.input {
+            [] => line.extend(b"/0"),
+            bytes => spaced(line, bytes),
+        }
+        if elapsed > 0 {
+            line.extend(b" +");
+            number(line, elapsed.into());
+        }
+        if ticks_per_byte > 0 {
+            line.extend(b" @");
+            number(line, ticks_per_byte.into());
+        }
+        if !wp_high {
+            line.extend(b" wp=low");
+        }
+        line.extend(b" account=");
+        number(line, self.account.into());
+        line.extend(b" # ST ");
+        pair(line, self.status);
+        line.push(b' ');
+        line.extend(self.sent.exchange.answer.outcome.word().as_bytes());
+    }
+
+    /// Its JSON object.
+    pub fn json(&self, line: &mut Vec<u8>) {
+        let exchange = &self.sent.exchange;
+        begin(line, self.tick, self.account);
+        line.extend(b",\"bytes\":\"");
+        joined(line, self.input);
+        line.extend(b"\",\"output\":\"");
+        joined(line, &exchange.output);
+        line.extend(b"\",\"outcome\":\"");
+        line.extend(exchange.answer.outcome.word().as_bytes());
+        line.extend(b"\",\"billed\":");
+        match self.sent.billed {
+            Some(Billed { account, ticks }) => {
+                number(line, ticks.into());
+                line.extend(b",\"billed_to\":");
+                number(line, account.into());
+            }
+            None => line.extend(b"0,\"billed_to\":null"),
+        }
+        line.push(b'}');
+    }
+}
+
+/// A frame that was refused, so the part is as it was.
+pub struct Refused {
+    /// The tick of the last frame's end.
+    pub tick: u128,
+    /// Whose it is.
+    pub account: u8,
+    /// How many bytes were sent.
+    pub sent: usize,
+    /// How many were to be read.
+    pub read: usize,
+    /// Why.
+    pub refusal: Refusal,
+}
+
+impl Refused {
+    /// Its line for `run` and `bill`, which is a comment.
+    pub fn line(&self, line: &mut Vec<u8>) {
+        let Refused {
+            account,
+            sent,
+            read,
+            refusal,
+            ..
+        } = self;
+        line.extend(format!("# refused: {sent} bytes sent, {read} to be read: {refusal}; account={account}").as_bytes());
+    }
+
+    /// Its JSON object.
+    pub fn json(&self, line: &mut Vec<u8>) {
+        begin(line, self.tick, self.account);
+        let words = format!(
+            ",\"sent\":{},\"read\":{},\"refusal\":{}}}",
+            self.sent,
+            self.read,
+            self.refusal.number()
+        );
+        line.extend(words.as_bytes());
+    }
+}
+
+/// How a JSON object begins.
+fn begin(line: &mut Vec<u8>, tick: u128, account: u8) {
+    line.extend(b"{\"tick\":");
+    number(line, tick);
+    line.extend(b",\"account\":");
+    number(line, account.into());
+}
+
+/// A number in decimal.
+fn number(line: &mut Vec<u8>, number: u128) {
+    let _ = write!(line, "{number}"); // a vector takes all that is written
+}
+
+/// A byte as two hexadecimal digits.
+fn pair(line: &mut Vec<u8>, byte: u8) {
+    const DIGITS: &[u8; 16] = b"0123456789ABCDEF";
+    line.extend([DIGITS[usize::from(byte >> 4)], DIGITS[usize::from(byte & 15)]]);
+}
+
+/// Bytes as pairs of hexadecimal digits.
+fn joined(line: &mut Vec<u8>, bytes: &[u8]) {
+    line.reserve(2 * bytes.len());
+    bytes.iter().for_each(|byte| pair(line, *byte));
+}
+
+/// The same with a blank between two.
+fn spaced(line: &mut Vec<u8>, bytes: &[u8]) {
+    line.reserve(3 * bytes.len());
+    for (place, byte) in bytes.iter().enumerate() {
+        if place > 0 {
+            line.push(b' ');
+        }
+        pair(line, *byte);
+    }
+}
+
+#[cfg(test)]
+mod tests {
+    use super::*;
+    use crate::desk::Desk;
+    use oxterin::{Part, Size};
+
+    /// The two lines of a frame for account 7 that a part with 20 busy ticks of account 3 takes.
+    fn told(input: &[u8], signals: Signals) -> [String; 2] {
+        let mut desk = Desk::new(Part::blank(Size::Whole));
+        desk.part.record.busy = 20;
+        desk.ledger.running.account = 3;
+        let sent = desk.exchange(7, input, signals).expect("the part takes it");
+        let told = Told {
+            tick: desk.tick,
+            account: 7,
+            input,
+            signals,
+            sent: &sent,
+            status: desk.part.status(signals.wp_high)[0],
+        };
+        let (mut line, mut json) = (Vec::new(), Vec::new());
+        told.line(&mut line);
+        told.json(&mut json);
+        [line, json].map(|text| String::from_utf8(text).expect("text"))
+    }
+
+    #[test]
+    fn a_frame_is_a_line_and_an_object() {
+        let poll = [0x05, 0x00, 0x00];
+        let plain = Signals::whole(&poll);
+        assert_eq!(
+            told(&poll, plain),
+            [
+                "05 00 00 account=7 # ST 11 read",
+                r#"{"tick":0,"account":7,"bytes":"050000","output":"FF1101","outcome":"read","billed":0,"billed_to":null}"#
+            ]
+        );
+        let slow = Signals {
+            elapsed: 10,
+            wp_high: false,
+            ..plain.with_ticks_per_byte(8)
+        };
+        assert_eq!(
+            told(&poll, slow),
+            [
+                "05 00 00 +10 @8 wp=low account=7 # ST 00 read",
+                r#"{"tick":34,"account":7,"bytes":"050000","output":"FF0100","outcome":"read","billed":20,"billed_to":3}"#
+            ]
+        );
+        assert_eq!(told(&[], Signals::whole(&[]))[0], "/0 account=7 # ST 11 nothing");
+    }
+
+    #[test]
+    fn a_refused_frame_is_a_comment_and_an_object() {
+        let refused = Refused {
+            tick: 5,
+            account: 7,
+            sent: 0,
+            read: 8_193,
+            refusal: Refusal::InputLength,
+        };
+        let (mut line, mut json) = (Vec::new(), Vec::new());
+        refused.line(&mut line);
+        refused.json(&mut json);
+        assert_eq!(
+            line,
+            b"# refused: 0 bytes sent, 8193 to be read: refusal 3: a frame has at most 8,192 bytes; account=7"
+        );
+        assert_eq!(json, br#"{"tick":5,"account":7,"sent":0,"read":8193,"refusal":3}"#);
+    }
+}
