@@ -24,7 +24,7 @@ mod table;
 mod tally;
 mod whole;
 
-use complaint::{complain, complaint, Complaint};
+use complaint::{complain, complaint, settle, Complaint};
 use std::io::{self, Write};
 use std::process::ExitCode;
 
@@ -45,13 +45,15 @@ Usage: oxterin COMMAND [OPTIONS]
 ";
 
 fn main() -> ExitCode {
-    match words().and_then(|words| obey(&words)) {
+    let ended = match words().and_then(|words| obey(&words)) {
         Ok(()) => ExitCode::SUCCESS,
         Err(error) => {
             complain(error);
             ExitCode::from(2)
         }
-    }
+    };
+    settle();
+    ended
 }
 
 /// The words after the command's name.

@@ -7,7 +7,7 @@ mod log;
 mod port;
 mod serprog;
 
-use crate::complaint::{complain, complaint, Complaint};
+use crate::complaint::{complain, complaint, speak_aside, Complaint};
 use crate::desk::Desk;
 use crate::fresh::{PART_FLAGS, PART_HELP, PART_VALUED};
 use crate::image;
@@ -138,6 +138,7 @@ pub fn serve(words: &[String]) -> Result<(), Complaint> {
     let ports = wanted.iter().map(|door| door.open()).collect::<Result<Vec<_>, _>>()?;
     let (lines, json) = (log(&given, "--log")?, log(&given, "--json")?);
     let awaited = oxterin_signals::block();
+    speak_aside();
     let bench = Arc::new(Bench::new(desk, wp_high, ticks_per_byte, speed));
     let keeper = Arc::new(Keeper::new(&bench, array, state, status)?);
     keep_logs(&bench, lines, json);

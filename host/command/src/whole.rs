@@ -144,9 +144,9 @@ impl New {
     fn beside(place: &Path, mode: u32) -> io::Result<New> {
         for _ in 0..New::TRIES {
             let path = place.with_file_name(name_beside(place, RandomState::new().hash_one(())));
-            let file = match OpenOptions::new().write(true).create_new(true).mode(mode).open(&path) {
+            let file = match create(&path, mode) {
                 Err(error) if error.kind() == ErrorKind::AlreadyExists => continue,
-                opened => opened?,
+                created => created?,
             };
             let new = New { path, file, kept: false };
             if new.file.try_lock().is_ok() && is_at(&new.file, &new.path) {
@@ -179,6 +179,11 @@ impl Drop for New {
             let _ = fs::remove_file(&self.path);
         }
     }
+}
+
+/// A file that was not there before; if there is something, be it a link that leads nowhere, it is an error.
+fn create(path: &Path, mode: u32) -> io::Result<File> {
+    OpenOptions::new().write(true).create_new(true).mode(mode).open(path)
 }
 
 /// The file at a place, locked; none if there is no file. The words say why it cannot be had.
@@ -287,5 +292,22 @@ mod tests {
         ] {
             assert!(!is_beside(OsStr::new(other), place), "{other}");
         }
+    }
+
+    #[test]
+    fn a_planted_link_is_not_followed() {
+        let folder = std::env::temp_dir().join(name_beside(Path::new("oxterin-whole"), RandomState::new().hash_one(())));
+        fs::create_dir(&folder).expect("a folder");
+        let (victim, nothing, link) = (folder.join("victim"), folder.join("nothing"), folder.join("link"));
+        fs::write(&victim, "precious").expect("a file");
+        for target in [&victim, &nothing] {
+            std::os::unix::fs::symlink(target, &link).expect("a link");
+            let error = create(&link, 0o600).expect_err("a link is there");
+            assert_eq!(error.kind(), ErrorKind::AlreadyExists);
+            fs::remove_file(&link).expect("the link goes");
+        }
+        assert_eq!(fs::read(&victim).expect("there"), b"precious");
+        assert!(!nothing.exists());
+        fs::remove_dir_all(&folder).expect("the folder goes");
     }
 }

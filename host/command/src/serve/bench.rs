@@ -4,9 +4,7 @@ use super::counts::Counts;
 use super::log::{Log, Refused, Told};
 use crate::desk::Desk;
 use oxterin::{Refusal, Signals};
-use std::io;
 use std::sync::{Condvar, Mutex, MutexGuard, PoisonError};
-use std::thread;
 use std::time::{Duration, Instant};
 
 /// A part in a server. Frames reach it one at a time, in the order in which they become whole.
@@ -114,23 +112,15 @@ impl Bench {
         self.happened(shared);
     }
 
-    /// Lets ticks pass by a client's delay. With the machine's clock they are waited for, but not past the moment when the client is let go.
-    pub fn pass(&self, ticks: u64, until: Option<Instant>) -> io::Result<()> {
-        let Some((clock, _)) = self.clock else {
-            let mut shared = self.lock();
-            shared.desk.waiting = shared.desk.waiting.saturating_add(ticks);
-            self.happened(&mut shared);
-            return Ok(());
-        };
-        let (time, left) = (
-            clock.time(ticks),
-            until.map_or(Duration::MAX, |until| until.saturating_duration_since(Instant::now())),
-        );
-        thread::sleep(time.min(left));
-        match time <= left {
-            true => Ok(()),
-            false => Err(io::ErrorKind::TimedOut.into()),
+    /// Lets ticks pass by a client's delay. With the machine's clock they pass by themselves: then it is said how long that takes.
+    pub fn pass(&self, ticks: u64) -> Option<Duration> {
+        if let Some((clock, _)) = self.clock {
+            return Some(clock.time(ticks));
         }
+        let mut shared = self.lock();
+        shared.desk.waiting = shared.desk.waiting.saturating_add(ticks);
+        self.happened(&mut shared);
+        None
     }
 
     /// Ticks that have passed since the last frame. Those that a frame took with its bytes have passed already.

@@ -1,6 +1,7 @@
 //! Saves what a server has to save: when it has changed and the clients are quiet, and on the way out.
 use super::bench::{Bench, Shared};
 use crate::complaint::{complain, Complaint};
+use crate::desk::Desk;
 use crate::whole::Held;
 use crate::{image, state};
 use std::mem;
@@ -112,37 +113,42 @@ impl Keeper {
         }
     }
 
-    /// Saves what has changed, if it is time to. Answers when something is to be tried again, though nothing happens.
+    /// Saves what has changed, if it is time to. Answers when to come again, though nothing happens.
     fn cycle(&mut self, bench: &Bench, quiet: bool) -> Option<Duration> {
         let mut shared = bench.lock();
         shared.flush();
         let page = self.status.as_ref().map(|_| shared.counts.page(&shared.desk));
         let mark = mark(&shared);
-        let due = self.mark != Some(mark) && (quiet || self.saved.elapsed() >= SELDOM);
-        let desk = (due && (self.array.is_some() || self.state.is_some())).then(|| bench.snapshot(&shared));
+        let changed = self.mark != Some(mark) && (self.array.is_some() || self.state.is_some());
+        let now = changed && (quiet || self.saved.elapsed() >= SELDOM);
+        let desk = now.then(|| bench.snapshot(&shared));
         drop(shared);
-        let mut again = None;
-        if let Some(desk) = desk {
-            let array = self.array.as_mut();
-            let array = array.is_none_or(|kept| kept.try_save(image::written(kept.held.path(), desk.part.array())));
-            let state = self.state.as_mut().is_none_or(|kept| kept.try_save(state::encode(&desk)));
-            self.saved = Instant::now();
-            match array && state {
-                true => self.mark = Some(mark),
-                false => again = Some(SELDOM),
-            }
-        } else if self.mark != Some(mark) {
-            again = Some(SELDOM);
+        let files = match desk {
+            Some(desk) => self.save(&desk, mark),
+            None => changed.then_some(QUIET),
+        };
+        let counters = page.and_then(|page| self.tell(page));
+        files.into_iter().chain(counters).min()
+    }
+
+    /// Saves array and state. If that fails it is to be tried again.
+    fn save(&mut self, desk: &Desk, mark: Mark) -> Option<Duration> {
+        let array = self.array.as_mut();
+        let array = array.is_none_or(|kept| kept.try_save(image::written(kept.held.path(), desk.part.array())));
+        let state = self.state.as_mut().is_none_or(|kept| kept.try_save(state::encode(desk)));
+        self.saved = Instant::now();
+        self.mark = (array && state).then_some(mark);
+        self.mark.is_none().then_some(SELDOM)
+    }
+
+    /// Saves the page of counters, unless that was done just now; then it is to be done later.
+    fn tell(&mut self, page: String) -> Option<Duration> {
+        if self.told.elapsed() < OFTEN {
+            return Some(OFTEN);
         }
-        if let (Some(kept), Some(page)) = (&mut self.status, page) {
-            if self.told.elapsed() >= OFTEN {
-                kept.try_save(page.into_bytes());
-                self.told = Instant::now();
-            } else {
-                again = Some(OFTEN);
-            }
-        }
-        again
+        self.told = Instant::now();
+        self.status.as_mut().map(|kept| kept.try_save(page.into_bytes()));
+        None
     }
 
     /// Saves everything a last time, and lets nobody touch the part any more. Answers how many frames there were.

@@ -3,10 +3,11 @@ use super::bench::Bench;
 use super::counts::Counts;
 use super::serprog::{begins, Client, Request};
 use crate::complaint::complain;
+use std::collections::VecDeque;
 use std::io::{self, BufRead, BufReader, ErrorKind, Read, Write};
-use std::net::{Ipv4Addr, SocketAddr, TcpListener, TcpStream};
+use std::net::{Ipv4Addr, Shutdown, SocketAddr, TcpListener, TcpStream};
 use std::sync::atomic::{AtomicUsize, Ordering};
-use std::sync::{Arc, Mutex, PoisonError};
+use std::sync::{Arc, Mutex, MutexGuard, PoisonError};
 use std::thread;
 use std::time::{Duration, Instant};
 
@@ -19,12 +20,14 @@ pub struct Port {
     seat: Mutex<()>,
     /// How many connections there are, of whatever kind.
     present: AtomicUsize,
+    /// Those of them that have not said anything yet, in the order in which they came.
+    mute: Mutex<VecDeque<Arc<TcpStream>>>,
 }
 
 /// What is done when a client that was served has left.
 pub type Left = Arc<dyn Fn() + Send + Sync>;
 
-/// So many connections a port has at a time; others wait outside.
+/// So many connections a port has at a time. If another comes, the first of those that have not said anything goes; if all have, it waits.
 const MOST_PRESENT: usize = 100;
 /// A connection that says nothing at all is closed after this time.
 const FIRST_WORD: Duration = Duration::from_secs(10);
@@ -41,6 +44,7 @@ impl Port {
             account,
             seat: Mutex::new(()),
             present: AtomicUsize::new(0),
+            mute: Mutex::default(),
         })
     }
 
@@ -52,11 +56,11 @@ impl Port {
     /// Lets clients in as long as the server runs. Whenever one that was served has left, that is told.
     pub fn serve(self: Arc<Port>, bench: &Arc<Bench>, idle: Option<Duration>, left: &Left) {
         loop {
-            while self.present.load(Ordering::Relaxed) >= MOST_PRESENT {
-                thread::sleep(Duration::from_millis(10));
-            }
             match self.listener.accept() {
-                Ok((stream, peer)) => self.let_in(bench, idle, left, stream, peer),
+                Ok((stream, peer)) => {
+                    self.make_room();
+                    self.let_in(bench, idle, left, Arc::new(stream), peer);
+                }
                 Err(error) if error.kind() == ErrorKind::ConnectionAborted => {}
                 Err(error) => {
                     complain(format!("waiting for a client: {error}; the server waits on"));
@@ -66,8 +70,23 @@ impl Port {
         }
     }
 
+    /// Waits until there is room for one more.
+    fn make_room(&self) {
+        while self.present.load(Ordering::Relaxed) >= MOST_PRESENT {
+            if let Some(first) = self.mute().pop_front() {
+                let _ = first.shutdown(Shutdown::Both); // its thread hears of it and ends
+            }
+            thread::sleep(Duration::from_millis(1));
+        }
+    }
+
+    /// Those that have not said anything yet.
+    fn mute(&self) -> MutexGuard<'_, VecDeque<Arc<TcpStream>>> {
+        self.mute.lock().unwrap_or_else(PoisonError::into_inner)
+    }
+
     /// Gives a connection a thread of its own.
-    fn let_in(self: &Arc<Port>, bench: &Arc<Bench>, idle: Option<Duration>, left: &Left, stream: TcpStream, peer: SocketAddr) {
+    fn let_in(self: &Arc<Port>, bench: &Arc<Bench>, idle: Option<Duration>, left: &Left, stream: Arc<TcpStream>, peer: SocketAddr) {
         let (port, bench, left) = (Arc::clone(self), Arc::clone(bench), Arc::clone(left));
         port.present.fetch_add(1, Ordering::Relaxed);
         let guest = move || {
@@ -86,45 +105,35 @@ impl Port {
 
 /// How a conversation ended.
 enum End {
-    /// The client left between two requests.
+    /// The client left between two requests, or before the first.
     Left,
-    /// It was no client, or is one no more: it said this byte where a command was expected.
-    Stranger(u8),
+    /// It was no client: these words say how that was seen.
+    Stranger(String),
     /// It was lost, or was silent for too long.
     Lost(io::Error),
 }
 
-/// Talks with a connection until it ends, and says what was out of order. Answers whether it was served.
-fn attend(port: &Port, bench: &Bench, idle: Option<Duration>, stream: TcpStream, peer: SocketAddr) -> bool {
-    let mut requests = match Wire::new(stream, idle) {
-        Ok(wire) => BufReader::with_capacity(ROOM, wire),
-        Err(error) => {
-            complain(format!("{peer}: {error}; hung up on it"));
-            return false;
+/// Talks with a connection until it ends, and says what was out of order. Answers whether a client was served.
+fn attend(port: &Port, bench: &Bench, idle: Option<Duration>, stream: Arc<TcpStream>, peer: SocketAddr) -> bool {
+    let mut seated = false;
+    let end = Wire::new(&stream, idle).map_or_else(End::Lost, |wire| {
+        let mut requests = BufReader::with_capacity(ROOM, wire);
+        if let Err(end) = port.first_word(&mut requests, &stream, idle) {
+            return end;
         }
-    };
-    match first_byte(&mut requests, idle) {
-        Ok(Some(byte)) if begins(byte) => {}
-        Ok(Some(byte)) => {
-            bench.count(Counts::stranger);
-            complain(format!("{peer}: no serprog client, its first byte is {byte:02X}h; hung up on it"));
-            return false;
-        }
-        Ok(None) => return false,
-        Err(error) => {
-            bench.count(Counts::let_go);
-            complain(format!("{peer}: {}; hung up on it", words(&error, idle)));
-            return false;
-        }
-    }
-    let _seat = port.seat.lock().unwrap_or_else(PoisonError::into_inner);
-    bench.count(Counts::come);
-    let end = converse(Client::new(bench, port.account), &mut requests, idle);
+        let _seat = port.seat.lock().unwrap_or_else(PoisonError::into_inner);
+        seated = true;
+        bench.count(Counts::come);
+        let end = converse(bench, port.account, &mut requests, idle);
+        bench.left();
+        end
+    });
+    let served = seated && !matches!(end, End::Stranger(_));
     match end {
         End::Left => {}
-        End::Stranger(byte) => {
+        End::Stranger(how) => {
             bench.count(Counts::stranger);
-            complain(format!("{peer}: {byte:02X}h is no command of serprog; hung up on it"));
+            complain(format!("{peer}: no serprog client, {how}; hung up on it"));
         }
         End::Lost(error) => {
             if error.kind() == ErrorKind::TimedOut {
@@ -133,49 +142,82 @@ fn attend(port: &Port, bench: &Bench, idle: Option<Duration>, stream: TcpStream,
             complain(format!("{peer}: {}; the part waits for the next client", words(&error, idle)));
         }
     }
-    bench.left();
-    true
+    served
 }
 
-/// The first byte that a connection says, which stays to be read; none if it leaves without a word.
-fn first_byte(requests: &mut BufReader<Wire>, idle: Option<Duration>) -> io::Result<Option<u8>> {
-    let patience = idle.map_or(FIRST_WORD, |idle| idle.min(FIRST_WORD));
-    requests.get_mut().until = Some(Instant::now() + patience);
-    match requests.fill_buf() {
-        Ok(bytes) => Ok(bytes.first().copied()),
-        Err(error) if error.kind() == ErrorKind::ConnectionReset => Ok(None),
-        Err(error) => Err(error),
+impl Port {
+    /// Waits for the first byte that a connection says, which stays to be read: it has to be a command that is served.
+    fn first_word(&self, requests: &mut BufReader<Wire<'_>>, stream: &Arc<TcpStream>, idle: Option<Duration>) -> Result<(), End> {
+        let patience = idle.map_or(FIRST_WORD, |idle| idle.min(FIRST_WORD));
+        requests.get_mut().until = Some(Instant::now() + patience);
+        self.mute().push_back(Arc::clone(stream));
+        let first = requests.fill_buf().map(|bytes| bytes.first().copied());
+        self.mute().retain(|mute| !Arc::ptr_eq(mute, stream));
+        match first {
+            Ok(Some(byte)) if begins(byte) => Ok(()),
+            Ok(Some(byte)) => Err(End::Stranger(format!("its first byte is {byte:02X}h"))),
+            Ok(None) => Err(End::Left),
+            Err(error) if error.kind() == ErrorKind::ConnectionReset => Err(End::Left),
+            Err(error) => Err(ended(error)),
+        }
+    }
+}
+
+/// How a conversation ends with an error of its connection.
+fn ended(error: io::Error) -> End {
+    match error.kind() {
+        ErrorKind::InvalidData => End::Stranger(error.to_string()),
+        _ => End::Lost(error),
     }
 }
 
 /// Answers requests until there are none. Whoever sends no frame for too long is let go.
-fn converse(mut client: Client<'_>, requests: &mut BufReader<Wire>, idle: Option<Duration>) -> End {
+fn converse(bench: &Bench, account: u8, requests: &mut BufReader<Wire<'_>>, idle: Option<Duration>) -> End {
     let patience = || idle.map(|idle| Instant::now() + idle);
+    let stream = requests.get_ref().stream;
+    let linger = |time| linger(stream, time);
+    let mut client = Client::new(bench, account, &linger);
     client.until = patience();
     loop {
         requests.get_mut().until = client.until;
         let reply = match client.reply(requests) {
             Ok(Some(reply)) => reply,
-            Ok(None) => {
-                return match requests.get_mut().flush() {
-                    Ok(()) => End::Left,
-                    Err(error) => End::Lost(error),
-                }
-            }
-            Err(error) => return End::Lost(error),
+            Ok(None) => return requests.get_mut().flush().map_or_else(ended, |()| End::Left),
+            Err(error) => return ended(error),
         };
         if let Err(error) = requests.get_mut().put(&reply.bytes) {
-            return End::Lost(error);
+            return ended(error);
         }
         match reply.request {
             Request::Frame => client.until = patience(),
             Request::Other => {}
             Request::Unknown(byte) => {
                 let _ = requests.get_mut().flush(); // it is hung up on in any case
-                return End::Stranger(byte);
+                return End::Stranger(format!("it said {byte:02X}h in place of a command"));
             }
         }
     }
+}
+
+/// Waits a while, at the most so long, and answers whether the other side is still there. A short time is waited for to its end.
+fn linger(stream: &TcpStream, time: Duration) -> bool {
+    if time <= LOOK {
+        thread::sleep(time);
+        return true;
+    }
+    match stream.peek(&mut [0]) {
+        Ok(0) => false,
+        Ok(_) => {
+            thread::sleep(LOOK);
+            true
+        }
+        Err(error) => is_patience(&error),
+    }
+}
+
+/// Whether an error says no more than that nothing has come yet.
+fn is_patience(error: &io::Error) -> bool {
+    matches!(error.kind(), ErrorKind::WouldBlock | ErrorKind::TimedOut | ErrorKind::Interrupted)
 }
 
 /// How a connection was lost, in words.
@@ -189,21 +231,32 @@ fn words(error: &io::Error, idle: Option<Duration>) -> String {
 }
 
 /// A connection. Replies are kept until the next request has to be waited for.
-struct Wire {
-    stream: TcpStream,
+struct Wire<'a> {
+    stream: &'a TcpStream,
     replies: Vec<u8>,
+    /// The first bytes that came.
+    first: Vec<u8>,
     /// When the other side's time is over; never if there is none.
     until: Option<Instant>,
 }
 
-impl Wire {
-    fn new(stream: TcpStream, idle: Option<Duration>) -> io::Result<Wire> {
+/// What stands in the head of every message of STUN and TURN, which browsers send for WebRTC and which can begin with a command.
+const COOKIE: [u8; 4] = [0x21, 0x12, 0xA4, 0x42];
+/// How many bytes come before it: four, or six if two bytes for the message's length come first.
+const BEFORE: [usize; 2] = [4, 6];
+/// So many bytes of a connection tell whether it begins with such a message.
+const TELLING: usize = 10;
+
+impl<'a> Wire<'a> {
+    fn new(stream: &'a TcpStream, idle: Option<Duration>) -> io::Result<Wire<'a>> {
+        let look = idle.map_or(LOOK, |idle| idle.min(LOOK));
         stream.set_nodelay(true)?;
-        stream.set_read_timeout(Some(idle.map_or(LOOK, |idle| idle.min(LOOK))))?;
-        stream.set_write_timeout(idle)?;
+        stream.set_read_timeout(Some(look))?;
+        stream.set_write_timeout(Some(look))?;
         Ok(Wire {
             stream,
             replies: Vec::new(),
+            first: Vec::new(),
             until: None,
         })
     }
@@ -219,31 +272,54 @@ impl Wire {
 
     /// Sends the replies that are kept.
     fn flush(&mut self) -> io::Result<()> {
-        let sent = self.stream.write_all(&self.replies);
+        let mut sent = 0;
+        while sent < self.replies.len() {
+            match self.stream.write(&self.replies[sent..]) {
+                Ok(0) => return Err(ErrorKind::WriteZero.into()),
+                Ok(count) => sent += count,
+                Err(error) if is_patience(&error) => {}
+                Err(error) => return Err(error),
+            }
+            self.in_time(sent == self.replies.len())?;
+        }
         self.replies.clear();
-        sent.map_err(|error| match error.kind() {
-            ErrorKind::WouldBlock => ErrorKind::TimedOut.into(),
-            _ => error,
-        })
+        Ok(())
     }
 
-    /// Whether the other side's time is over.
-    fn is_over(&self) -> bool {
-        self.until.is_some_and(|until| until <= Instant::now())
+    /// It is an error if the other side's time is over before something is done.
+    fn in_time(&self, done: bool) -> io::Result<()> {
+        match !done && self.until.is_some_and(|until| until <= Instant::now()) {
+            true => Err(ErrorKind::TimedOut.into()),
+            false => Ok(()),
+        }
+    }
+
+    /// It is an error if the connection begins with a message of STUN.
+    fn look_at(&mut self, bytes: &[u8]) -> io::Result<()> {
+        if self.first.len() < TELLING {
+            let missing = (TELLING - self.first.len()).min(bytes.len());
+            self.first.extend(&bytes[..missing]);
+            let tells = |before: usize| self.first.get(before..before + COOKIE.len()) == Some(&COOKIE);
+            if BEFORE.into_iter().any(tells) {
+                return Err(io::Error::new(ErrorKind::InvalidData, "it speaks STUN"));
+            }
+        }
+        Ok(())
     }
 }
 
-impl Read for Wire {
+impl Read for Wire<'_> {
     fn read(&mut self, bytes: &mut [u8]) -> io::Result<usize> {
         self.flush()?;
         loop {
-            let read = self.stream.read(bytes);
-            let waits =
-                matches!(&read, Err(error) if matches!(error.kind(), ErrorKind::WouldBlock | ErrorKind::TimedOut | ErrorKind::Interrupted));
-            match self.is_over() {
-                true => return Err(ErrorKind::TimedOut.into()),
-                false if waits => {}
-                false => return read,
+            match self.stream.read(bytes) {
+                Err(error) if is_patience(&error) => self.in_time(false)?,
+                Err(error) => return Err(error),
+                Ok(count) => {
+                    self.in_time(false)?;
+                    self.look_at(&bytes[..count])?;
+                    return Ok(count);
+                }
             }
         }
     }

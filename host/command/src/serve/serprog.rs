@@ -6,7 +6,7 @@
 use super::bench::Bench;
 use oxterin::Refusal;
 use std::io::{self, BufRead, Read};
-use std::time::Instant;
+use std::time::{Duration, Instant};
 
 /// The request was carried out.
 const ACK: u8 = 0x06;
@@ -108,6 +108,8 @@ pub struct Client<'a> {
     buffered: u64,
     /// When it is let go unless it has sent a frame by then; never if there is none.
     pub until: Option<Instant>,
+    /// Waits a while, at the most so long, and answers whether the client is still there.
+    linger: &'a dyn Fn(Duration) -> bool,
 }
 
 /// What a request is answered with.
@@ -131,13 +133,14 @@ pub enum Request {
 }
 
 impl<'a> Client<'a> {
-    /// A client that sends frames for an account.
-    pub fn new(bench: &'a Bench, account: u8) -> Client<'a> {
+    /// A client that sends frames for an account and is never let go.
+    pub fn new(bench: &'a Bench, account: u8, linger: &'a dyn Fn(Duration) -> bool) -> Client<'a> {
         Client {
             bench,
             account,
             buffered: 0,
             until: None,
+            linger,
         }
     }
 
@@ -190,8 +193,24 @@ impl<'a> Client<'a> {
 
     /// `O_EXEC`.
     fn pass_delays(&mut self) -> io::Result<Vec<u8>> {
-        self.bench.pass(self.buffered, self.until)?;
+        if let Some(time) = self.bench.pass(self.buffered) {
+            self.wait(time)?;
+        }
         Ok(self.forget_delays())
+    }
+
+    /// Waits for a delay to pass by the machine's clock, as long as the client is there and is not let go.
+    fn wait(&self, time: Duration) -> io::Result<()> {
+        let begun = Instant::now();
+        while begun.elapsed() < time {
+            if !(self.linger)(time - begun.elapsed().min(time)) {
+                return Err(io::ErrorKind::UnexpectedEof.into());
+            }
+            if self.until.is_some_and(|until| until <= Instant::now()) {
+                return Err(io::ErrorKind::TimedOut.into());
+            }
+        }
+        Ok(())
     }
 
     /// `O_SPIOP`: how many bytes are sent, how many are to be read, and those sent. The client gets the output after the bytes it sent.
@@ -298,6 +317,11 @@ mod tests {
         Bench::new(Desk::new(Part::blank(Size::Whole)), true, ticks_per_byte, None)
     }
 
+    /// A client for an account that is always there.
+    fn client_of(bench: &Bench, account: u8) -> Client<'_> {
+        Client::new(bench, account, &|_| true)
+    }
+
     /// The replies to a client's requests, which end with the stream.
     fn replies(client: &mut Client<'_>, mut requests: &[u8]) -> Vec<Vec<u8>> {
         let mut all = Vec::new();
@@ -342,7 +366,7 @@ mod tests {
         for request in requests {
             let joined = [request, &[0x00]].concat();
             assert_eq!(
-                replies(&mut Client::new(&bench, 0), &joined),
+                replies(&mut client_of(&bench, 0), &joined),
                 [vec![0x15], vec![0x06]],
                 "{request:02X?}"
             );
@@ -353,7 +377,7 @@ mod tests {
     fn a_byte_that_is_no_command_ends_the_conversation() {
         let bench = bench(0);
         for byte in 0x16..=0xFF {
-            let reply = Client::new(&bench, 0).reply(&mut &[byte][..]).expect("whole").expect("a reply");
+            let reply = client_of(&bench, 0).reply(&mut &[byte][..]).expect("whole").expect("a reply");
             assert_eq!((reply.bytes, reply.request), (vec![0x15], Request::Unknown(byte)));
         }
     }
@@ -363,14 +387,14 @@ mod tests {
         let whole = [0x13, 0x01, 0x00, 0x00, 0x00, 0x00, 0x00, 0x06];
         let bench = bench(0);
         for end in 1..whole.len() {
-            let error = Client::new(&bench, 0)
+            let error = client_of(&bench, 0)
                 .reply(&mut &whole[..end])
                 .expect_err("the request is not whole");
             assert_eq!(error.kind(), io::ErrorKind::UnexpectedEof);
             assert!(!bench.lock().desk.part.record.wel);
         }
         let mut long = &[0x13, 0xFF, 0xFF, 0xFF, 0x00, 0x00, 0x00, 0x06, 0x06][..];
-        let error = Client::new(&bench, 0).reply(&mut long).expect_err("the request is not whole");
+        let error = client_of(&bench, 0).reply(&mut long).expect_err("the request is not whole");
         assert_eq!(error.kind(), io::ErrorKind::UnexpectedEof);
     }
 
@@ -378,7 +402,7 @@ mod tests {
     fn delays_pass_when_they_are_executed() {
         let bench = bench(0);
         bench.lock().desk.part.record.busy = 20_000;
-        let mut client = Client::new(&bench, 0);
+        let mut client = client_of(&bench, 0);
         let delay = [0x0E, 0x10, 0x27, 0x00, 0x00]; // 10,000
         let busy = vec![0x06, 0x11];
         assert_eq!(replies(&mut client, &[&delay[..], &poll(1)].concat())[1], busy);
@@ -395,10 +419,10 @@ mod tests {
     #[test]
     fn elapsed_ticks_stay_with_the_part_and_buffered_ones_with_the_client() {
         let bench = bench(0);
-        let mut client = Client::new(&bench, 0);
+        let mut client = client_of(&bench, 0);
         replies(&mut client, &[0x0E, 0x05, 0x00, 0x00, 0x00, 0x0F, 0x0E, 0x07, 0x00, 0x00, 0x00]);
         assert_eq!((client.buffered, ticks(&bench).1), (7, 5));
-        let mut client = Client::new(&bench, 0);
+        let mut client = client_of(&bench, 0);
         let refused = client.reply(&mut &[0x13, 0x00, 0x00, 0x00, 0x01, 0x20, 0x00][..]).expect("whole");
         let wanted = Reply {
             bytes: vec![0x15],
@@ -414,7 +438,7 @@ mod tests {
     fn every_byte_of_a_frame_takes_its_ticks() {
         let bench = bench(8);
         bench.lock().desk.part.record.busy = 20;
-        let polled = replies(&mut Client::new(&bench, 0), &poll(4));
+        let polled = replies(&mut client_of(&bench, 0), &poll(4));
         assert_eq!(polled, [[0x06, 0x11, 0x01, 0x10, 0x00]]);
         assert_eq!(ticks(&bench), (0, 0, 40));
     }
@@ -423,7 +447,7 @@ mod tests {
     fn sums_of_delays_stop_at_the_largest_number() {
         let bench = bench(0);
         bench.lock().desk.waiting = u64::MAX - 1;
-        let mut client = Client::new(&bench, 0);
+        let mut client = client_of(&bench, 0);
         client.buffered = u64::MAX - 1;
         replies(&mut client, &[0x0E, 0x05, 0x00, 0x00, 0x00]);
         assert_eq!(client.buffered, u64::MAX);
@@ -436,9 +460,9 @@ mod tests {
     fn a_frame_is_billed_to_the_account_of_its_client() {
         let bench = bench(0);
         let frame = |bytes: &[u8]| [&[0x13, bytes.len() as u8, 0, 0, 0, 0, 0], bytes].concat();
-        replies(&mut Client::new(&bench, 3), &[frame(&[0x06]), frame(&[0x20, 0, 0, 0])].concat());
+        replies(&mut client_of(&bench, 3), &[frame(&[0x06]), frame(&[0x20, 0, 0, 0])].concat());
         let wait = [0x0E, 0x50, 0xC3, 0x00, 0x00, 0x0F]; // 50,000
-        replies(&mut Client::new(&bench, 8), &[&wait[..], &poll(1)].concat());
+        replies(&mut client_of(&bench, 8), &[&wait[..], &poll(1)].concat());
         let desk = &bench.lock().desk;
         assert_eq!((desk.ledger.totals[3], desk.ledger.totals[8]), (50_000, 0));
     }
