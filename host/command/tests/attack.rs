@@ -2,6 +2,7 @@
 //! vanish and clients that stay. Whatever they do, a good client is served, and finds the part as the protocol's whole requests left it.
 mod common;
 
+use common::server::{command, operation, port_of, until, ACK, NAK};
 use common::{folder, says, word};
 use std::fs::{self, File};
 use std::io::{BufRead, BufReader, ErrorKind, Read, Write};
@@ -11,10 +12,6 @@ use std::process::{Child, Command, Stdio};
 use std::thread;
 use std::time::{Duration, Instant};
 
-/// The request was carried out.
-const ACK: u8 = 0x06;
-/// The request was not carried out.
-const NAK: u8 = 0x15;
 /// The commands that are served, and so the bytes with which a client may begin.
 const SERVED: [u8; 17] = [
     0x00, 0x01, 0x02, 0x03, 0x04, 0x05, 0x07, 0x08, 0x0B, 0x0E, 0x0F, 0x10, 0x11, 0x12, 0x13, 0x14, 0x15,
@@ -87,7 +84,7 @@ impl Server {
         server.ports = BufReader::new(output)
             .lines()
             .take(ports)
-            .map(|line| port_in(&line.expect("a line")))
+            .map(|line| port_of(&line.expect("a line")))
             .collect();
         assert_eq!(server.ports.len(), ports, "{command:?} did not start");
         server
@@ -212,21 +209,6 @@ fn frame_of(line: &str) -> Vec<u8> {
     bytes.map(|word| u8::from_str_radix(word, 16).expect("digits")).collect()
 }
 
-/// The command with these words behind `serve`.
-fn command(words: &[&str]) -> Command {
-    let mut command = Command::new(env!("CARGO_BIN_EXE_oxterin"));
-    command.arg("serve").args(words);
-    command
-}
-
-/// The port in the line of a server that listens.
-fn port_in(line: &str) -> u16 {
-    let port = line
-        .strip_prefix("listening on 127.0.0.1:")
-        .and_then(|rest| rest.split(' ').next()?.parse().ok());
-    port.unwrap_or_else(|| panic!("'{line}' is not the line of a server that is ready"))
-}
-
 /// A new connection.
 fn connect(port: u16) -> TcpStream {
     let address = (Ipv4Addr::LOCALHOST, port).into();
@@ -271,14 +253,7 @@ fn answer_to(port: u16, bytes: &[u8]) -> Vec<u8> {
 
 /// The request of a frame: these bytes sent, then so many to be read.
 fn request(sent: &[u8], read: usize) -> Vec<u8> {
-    [&head(sent.len(), read)[..], sent].concat()
-}
-
-/// Its first bytes.
-fn head(sent: usize, read: usize) -> [u8; 7] {
-    let [s0, s1, s2, ..] = sent.to_le_bytes();
-    let [r0, r1, r2, ..] = read.to_le_bytes();
-    [0x13, s0, s1, s2, r0, r1, r2]
+    [&operation(sent.len(), read)[..], sent].concat()
 }
 
 /// A frame of a good client, and what it reads.
@@ -557,7 +532,7 @@ fn lengths_without_bounds_cost_the_server_no_memory() {
     ];
     let plain = plain.map(|(head, data)| (vec![ACK], [&[0x00], head].concat(), data));
     let frames = [(GIANT, GIANT), (GIANT, 0), (0, GIANT), (8_193, 0), (0, 8_193), (8_192, GIANT)];
-    let frames = frames.map(|(sent, read)| (Vec::new(), head(sent, read).to_vec(), sent));
+    let frames = frames.map(|(sent, read)| (Vec::new(), operation(sent, read).to_vec(), sent));
     for (before, head, data) in plain.into_iter().chain(frames) {
         for end in 1..head.len() {
             assert_eq!(answer_to(server.port(), &head[..end]), before, "{:02X?}", &head[..end]);
@@ -577,7 +552,7 @@ fn lengths_without_bounds_cost_the_server_no_memory() {
             scope.spawn(|| {
                 let waiting = connect(server.port());
                 waiting.set_write_timeout(Some(Duration::from_millis(300))).expect("a timeout");
-                put(&waiting, &[&head(GIANT, 0), &bytes[..GIANT]].concat());
+                put(&waiting, &[&operation(GIANT, 0), &bytes[..GIANT]].concat());
             });
         }
     });
@@ -612,7 +587,7 @@ fn some_request(random: &mut Random) -> Vec<u8> {
             let data = random.below(9_000);
             [
                 &[random.one_of(&[0x0D, 0x13])],
-                &head(data, random.below(200))[1..],
+                &operation(data, random.below(200))[1..],
                 &random.bytes(data),
             ]
             .concat()
@@ -744,7 +719,8 @@ fn more_connections_than_the_server_may_open_do_not_end_it() {
 /// The next client is served within 3 seconds all the same, though not before, and the first is hung up on.
 fn gives_up_the_seat(name: &str, options: &[&str], first: &[u8], slowly: &[u8]) {
     let options = [&["--port", "0", "--idle", "0.5"], options].concat();
-    let server = Server::start(&folder("attack", name), &options);
+    let folder = folder("attack", name);
+    let server = Server::start(&folder, &options);
     let begun = Instant::now();
     let holder = connect(server.port());
     put(&holder, first);
@@ -762,6 +738,13 @@ fn gives_up_the_seat(name: &str, options: &[&str], first: &[u8], slowly: &[u8]) 
     assert!(waited >= Duration::from_millis(500), "the next client was served after {waited:?}");
     assert!(waited < Duration::from_secs(3), "the next client was served after {waited:?}");
     ending(&holder);
+    let peer = holder.local_addr().expect("an address").to_string();
+    let said = || fs::read_to_string(folder.join("errors")).expect("text");
+    assert!(
+        until(|| said().contains(&peer).then_some(())).is_some(),
+        "{peer} is not in {}",
+        said()
+    );
 }
 
 /// It has sent one request, and no more.

@@ -1,9 +1,9 @@
 //! `oxterin bill`, and accounts in `oxterin run`, as their user sees them: who is billed for what, in a table, in numbers and on a page.
 mod common;
 
-use common::{complaint, oxterin, word};
+use common::{complaint, files, oxterin, word};
 use std::fs;
-use std::path::{Path, PathBuf};
+use std::path::PathBuf;
 
 /// Runs the command, which has to end well and complain of nothing: what it says.
 fn says(words: &[&str], input: &str) -> String {
@@ -13,16 +13,6 @@ fn says(words: &[&str], input: &str) -> String {
 /// An empty folder for a test's files.
 fn folder(name: &str) -> PathBuf {
     common::folder("bill", name)
-}
-
-/// The names of a folder's files.
-fn files(folder: &Path) -> Vec<String> {
-    let entries = fs::read_dir(folder).expect("the folder");
-    let mut names: Vec<String> = entries
-        .map(|entry| entry.expect("a file").file_name().to_string_lossy().into_owned())
-        .collect();
-    names.sort();
-    names
 }
 
 /// The path of an example.

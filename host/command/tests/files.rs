@@ -2,7 +2,7 @@
 mod common;
 
 use common::server::{refusal, until, Server, ACK};
-use common::{complaint, complaint_in, oxterin, oxterin_in, says, word};
+use common::{complaint, complaint_in, files, oxterin, oxterin_in, says, word};
 use std::fs::{self, File};
 use std::os::unix::fs::{symlink, MetadataExt, PermissionsExt};
 use std::path::{Path, PathBuf};
@@ -12,16 +12,6 @@ use std::time::Duration;
 /// An empty folder for a test's files.
 fn folder(name: &str) -> PathBuf {
     common::folder("files", name)
-}
-
-/// The names of a folder's files.
-fn files(folder: &Path) -> Vec<String> {
-    let entries = fs::read_dir(folder).expect("the folder");
-    let mut names: Vec<String> = entries
-        .map(|entry| entry.expect("a file").file_name().to_string_lossy().into_owned())
-        .collect();
-    names.sort();
-    names
 }
 
 /// A folder with an image of 65,536 bytes, a text of frames, a state, and other names for the image: a link, a hard link, and a path.

@@ -60,6 +60,16 @@ pub fn folder(tests: &str, name: &str) -> PathBuf {
     folder
 }
 
+/// The names of a folder's files.
+pub fn files(folder: &Path) -> Vec<String> {
+    let entries = fs::read_dir(folder).expect("the folder");
+    let mut names: Vec<String> = entries
+        .map(|entry| entry.expect("a file").file_name().to_string_lossy().into_owned())
+        .collect();
+    names.sort();
+    names
+}
+
 /// A path as a word of the command line.
 pub fn word(path: &Path) -> &str {
     path.to_str().expect("the path is text")

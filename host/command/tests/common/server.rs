@@ -97,7 +97,7 @@ fn collected(pipe: impl Read + Send + 'static) -> Arc<Mutex<String>> {
 }
 
 /// The port of a line that a server says when it is ready.
-fn port_of(line: &str) -> u16 {
+pub fn port_of(line: &str) -> u16 {
     let port = line.strip_prefix("listening on 127.0.0.1:").and_then(|rest| rest.split(' ').next());
     let port = port.and_then(|port| port.parse().ok());
     port.unwrap_or_else(|| panic!("'{line}' is not the line of a server that is ready"))
