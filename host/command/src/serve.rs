@@ -11,7 +11,7 @@ use crate::complaint::{complain, complaint, speak_aside, Complaint};
 use crate::desk::Desk;
 use crate::fresh::{PART_FLAGS, PART_HELP, PART_VALUED};
 use crate::image;
-use crate::lines::counted;
+use crate::lines::{counted, thousands};
 use crate::options::{self, Given};
 use crate::paths::apart;
 use crate::source::quoted;
@@ -88,8 +88,9 @@ come for a quarter of a second, when a client leaves, every five seconds under l
 and SIGHUP end the server after that. OUT is made at once if it is missing. No other oxterin can save them meanwhile.
 
 A line of the log is one that oxterin run takes: the bytes, +TICKS elapsed before it, @TICKS of each byte, wp=low,
-account=N, and as a comment status byte 1 afterwards and the outcome. A refused frame is a comment. FILE begins with the
-options that give the same bill. Logs are written in blocks, and when no frame has come for a quarter of a second.
+account=N, and as a comment status byte 1 afterwards and the outcome. A refused frame is a comment. A fresh part's log
+begins with the options that give the same bill; it may not be added to frames of another part. Logs are written in
+blocks, and when no frame has come for a quarter of a second.
 
 SIGUSR1 writes the counters to standard error: since when, frames, refusals by number, busy ticks, clients.
 "
@@ -136,12 +137,13 @@ pub fn serve(words: &[String]) -> Result<(), Complaint> {
     let status = given.value("--status").map(|path| STATUS.hold(path)).transpose()?;
     let (desk, state) = state::desk(&given)?;
     let ports = wanted.iter().map(|door| door.open()).collect::<Result<Vec<_>, _>>()?;
-    let (lines, json) = (log(&given, "--log")?, log(&given, "--json")?);
+    let replay = replay(&desk);
+    let (lines, json) = logs(&given, replay.is_some())?;
     let awaited = oxterin_signals::block();
     speak_aside();
     let bench = Arc::new(Bench::new(desk, wp_high, ticks_per_byte, speed));
     let keeper = Arc::new(Keeper::new(&bench, array, state, status)?);
-    keep_logs(&bench, lines, json);
+    keep_logs(&bench, lines, json, replay);
     announce(&wanted, &ports)?;
     let (reasons, ended) = channel();
     listen(awaited, &reasons);
@@ -262,22 +264,33 @@ fn door(text: &str, unsaid: Option<u8>) -> Result<Door, Complaint> {
     Ok(Door { number, account, words })
 }
 
-/// The log that an option asks for.
-fn log(given: &Given, option: &'static str) -> Result<Option<Log>, Complaint> {
-    given.value(option).map(|path| Log::open(option, path)).transpose()
+/// The logs that the options ask for, of a part that is fresh or goes on.
+fn logs(given: &Given, fresh: bool) -> Result<(Option<Log>, Option<Log>), Complaint> {
+    let [lines, json] = ["--log", "--json"].map(|option| given.value(option).map(|path| (option, path)));
+    if let Some((option, path)) = lines {
+        log::check(option, path, fresh)?;
+    }
+    if let Some((option, path)) = json {
+        log::check(option, path, false)?;
+    }
+    let open = |asked: Option<(&'static str, &str)>| asked.map(|(option, path)| Log::open(option, path)).transpose();
+    Ok((open(lines)?, open(json)?))
 }
 
-/// Begins the logs. The one that replays says with which options.
-fn keep_logs(bench: &Bench, lines: Option<Log>, json: Option<Log>) {
+/// Begins the logs. The one that replays says with which options, if its part is fresh.
+fn keep_logs(bench: &Bench, lines: Option<Log>, json: Option<Log>, replay: Option<String>) {
     let mut shared = bench.lock();
-    let replay = replay(&shared.desk);
+    let tick = thousands(shared.desk.tick);
     shared.lines = lines;
     shared.json = json;
     if let Some(log) = &mut shared.lines {
-        let path = quoted(log.path()).into_owned();
+        let path = match log.path().chars().any(char::is_control) {
+            true => "FILE".into(),
+            false => quoted(log.path()),
+        };
         let line = match replay {
             Some(options) => format!("# {}: a fresh part; the bill of what follows: oxterin bill {path}{options}", now()),
-            None => format!("# {}: goes on from a state", now()),
+            None => format!("# {}: goes on from a state at tick {tick}", now()),
         };
         log.tell(|bytes| bytes.extend(line.as_bytes()));
         log.flush();

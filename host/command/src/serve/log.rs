@@ -3,7 +3,7 @@ use crate::complaint::{complain, complaint, Complaint};
 use crate::desk::{Billed, Sent};
 use oxterin::{Refusal, Signals};
 use std::fs::{File, OpenOptions};
-use std::io::{Read, Seek, SeekFrom, Write};
+use std::io::{self, BufRead, BufReader, ErrorKind, Read, Seek, SeekFrom, Write};
 
 /// A file that grows by lines, written in blocks.
 pub struct Log {
@@ -21,22 +21,11 @@ const BLOCK: usize = 1 << 16;
 impl Log {
     /// Goes on with the file at a path, or begins one. What is there stays.
     pub fn open(option: &'static str, path: &str) -> Result<Log, Complaint> {
-        let wrong = |words: String| complaint(format!("{option} {path}: {words}"));
-        let mut file = OpenOptions::new()
-            .read(true)
-            .append(true)
-            .create(true)
-            .open(path)
-            .map_err(|error| wrong(format!("{error}; name a file that can be read and written")))?;
-        if !ends_whole(&mut file).map_err(|error| wrong(error.to_string()))? {
-            return Err(wrong(
-                "its last line has no end; end or remove that line first, or name another file".into(),
-            ));
-        }
+        let file = OpenOptions::new().append(true).create(true).open(path);
         Ok(Log {
             option,
             path: path.to_string(),
-            file: Some(file),
+            file: Some(file.map_err(|error| complaint(format!("{option} {path}: {error}; name a file that can be written")))?),
             block: Vec::new(),
         })
     }
@@ -72,16 +61,44 @@ impl Log {
     }
 }
 
-/// Whether a file is empty, ends with the end of a line, or is no plain file.
-fn ends_whole(file: &mut File) -> std::io::Result<bool> {
-    let there = file.metadata()?;
+/// Whether a log could go on with the file at a path, if there is one. `fresh` says that the part is: then the file has to be without frames,
+/// which were sent to another part.
+pub fn check(option: &str, path: &str, fresh: bool) -> Result<(), Complaint> {
+    let wrong = |words: &str| complaint(format!("{option} {path}: {words}"));
+    let file = match File::open(path) {
+        Err(error) if error.kind() == ErrorKind::NotFound => return Ok(()),
+        opened => opened.map_err(|error| wrong(&format!("{error}; name a file that can be read and written")))?,
+    };
+    let there = file.metadata().map_err(|error| wrong(&error.to_string()))?;
     if !there.is_file() || there.len() == 0 {
-        return Ok(true);
+        return Ok(());
     }
+    if !ends_whole(&file).map_err(|error| wrong(&error.to_string()))? {
+        return Err(wrong(
+            "its last line has no end; end or remove that line first, or name another file",
+        ));
+    }
+    match fresh && has_frames(file) {
+        true => Err(wrong(
+            "it has frames that were sent to another part, and this one is fresh; name another file, or go on from a state with --state",
+        )),
+        false => Ok(()),
+    }
+}
+
+/// Whether a file ends with the end of a line.
+fn ends_whole(mut file: &File) -> io::Result<bool> {
     let mut last = [0];
     file.seek(SeekFrom::End(-1))?;
     file.read_exact(&mut last)?;
+    file.rewind()?;
     Ok(last == *b"\n")
+}
+
+/// Whether a line of a file is neither empty nor a comment.
+fn has_frames(file: File) -> bool {
+    let mut lines = BufReader::new(file).split(b'\n').map_while(Result::ok);
+    lines.any(|line| !line.is_empty() && !line.starts_with(b"#"))
 }
 
 /// A frame that the part accepted, as it is written down.
