@@ -23,7 +23,7 @@ use keeper::Keeper;
 use log::Log;
 use oxterin::{Part, Record, Settings, Size};
 use oxterin_signals::{Awaited, Signal};
-use port::{Left, Port};
+use port::{Port, Service};
 use std::io::{self, Write};
 use std::sync::mpsc::{channel, Receiver, Sender};
 use std::sync::Arc;
@@ -141,20 +141,24 @@ pub fn serve(words: &[String]) -> Result<(), Complaint> {
     let (lines, json) = logs(&given, replay.is_some())?;
     let awaited = oxterin_signals::block();
     speak_aside();
-    let bench = Arc::new(Bench::new(desk, wp_high, ticks_per_byte, speed));
-    let keeper = Arc::new(Keeper::new(&bench, array, state, status)?);
-    keep_logs(&bench, lines, json, replay);
-    announce(&wanted, &ports)?;
     let (reasons, ended) = channel();
+    let service = Arc::new(Service {
+        bench: Bench::new(desk, wp_high, ticks_per_byte, speed),
+        idle,
+        left: when_left(given.has("--once"), &reasons),
+    });
+    let keeper = Arc::new(Keeper::new(&service.bench, array, state, status)?);
+    keep_logs(&service.bench, lines, json, replay);
+    announce(&wanted, &ports)?;
     listen(awaited, &reasons);
-    let left = when_left(given.has("--once"), &reasons);
     for port in ports {
-        open(port, &bench, idle, &left);
+        let service = Arc::clone(&service);
+        thread::spawn(move || port.serve(&service));
     }
-    let (files, watched) = (Arc::clone(&keeper), Arc::clone(&bench));
-    thread::spawn(move || Keeper::keep(&files, &watched));
-    let reason = wait(&ended, &bench);
-    let frames = Keeper::finish(&keeper, &bench)?;
+    let (files, watched) = (Arc::clone(&keeper), Arc::clone(&service));
+    thread::spawn(move || Keeper::keep(&files, &watched.bench));
+    let reason = wait(&ended, &service.bench);
+    let frames = Keeper::finish(&keeper, &service.bench)?;
     if let Reason::Asked(signal) = reason {
         complain(format!("ended by {signal} after {}; all is saved", counted(frames, "frame")));
     }
@@ -351,16 +355,10 @@ fn listen(awaited: Awaited, reasons: &Sender<Reason>) {
     thread::spawn(move || while reasons.send(Reason::Asked(awaited.next())).is_ok() {});
 }
 
-/// Lets clients in at a port.
-fn open(port: Arc<Port>, bench: &Arc<Bench>, idle: Option<Duration>, left: &Left) {
-    let (bench, left) = (Arc::clone(bench), Arc::clone(left));
-    thread::spawn(move || port.serve(&bench, idle, &left));
-}
-
 /// What is done when a client has left: nothing, unless it was to be the only one.
-fn when_left(once: bool, reasons: &Sender<Reason>) -> Left {
+fn when_left(once: bool, reasons: &Sender<Reason>) -> Box<dyn Fn() + Send + Sync> {
     let reasons = reasons.clone();
-    Arc::new(move || {
+    Box::new(move || {
         if once {
             let _ = reasons.send(Reason::Left); // nobody hears it if the server is ending already
         }

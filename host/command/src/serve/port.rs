@@ -1,7 +1,7 @@
 //! A port of a server: who is let in, who is served, and who is hung up on.
 use super::bench::Bench;
 use super::counts::Counts;
-use super::serprog::{begins, Client, Request};
+use super::serprog::{begins, Client, Reply, Request};
 use crate::complaint::complain;
 use std::collections::VecDeque;
 use std::io::{self, BufRead, BufReader, ErrorKind, Read, Write};
@@ -11,11 +11,21 @@ use std::sync::{Arc, Mutex, MutexGuard, PoisonError};
 use std::thread;
 use std::time::{Duration, Instant};
 
+/// What all ports of a server share.
+pub struct Service {
+    /// The part.
+    pub bench: Bench,
+    /// A client that sends no frame for so long is let go; never if there is no time.
+    pub idle: Option<Duration>,
+    /// What is done when a client that was served has left.
+    pub left: Box<dyn Fn() + Send + Sync>,
+}
+
 /// A port at the loopback address, and whose frames come from it.
 pub struct Port {
     listener: TcpListener,
     /// The account that its clients' frames are sent for.
-    pub account: u8,
+    account: u8,
     /// One client at a time is served.
     seat: Mutex<()>,
     /// How many connections there are, of whatever kind.
@@ -23,9 +33,6 @@ pub struct Port {
     /// Those of them that have not said anything yet, in the order in which they came.
     mute: Mutex<VecDeque<Arc<TcpStream>>>,
 }
-
-/// What is done when a client that was served has left.
-pub type Left = Arc<dyn Fn() + Send + Sync>;
 
 /// So many connections a port has at a time. If another comes, the first of those that have not said anything goes; if all have, it waits.
 const MOST_PRESENT: usize = 100;
@@ -42,7 +49,7 @@ impl Port {
         Ok(Port {
             listener: TcpListener::bind((Ipv4Addr::LOCALHOST, number))?,
             account,
-            seat: Mutex::new(()),
+            seat: Mutex::default(),
             present: AtomicUsize::new(0),
             mute: Mutex::default(),
         })
@@ -53,13 +60,13 @@ impl Port {
         self.listener.local_addr()
     }
 
-    /// Lets clients in as long as the server runs. Whenever one that was served has left, that is told.
-    pub fn serve(self: Arc<Port>, bench: &Arc<Bench>, idle: Option<Duration>, left: &Left) {
+    /// Lets clients in as long as the server runs.
+    pub fn serve(self: Arc<Port>, service: &Arc<Service>) {
         loop {
             match self.listener.accept() {
                 Ok((stream, peer)) => {
                     self.make_room();
-                    self.let_in(bench, idle, left, Arc::new(stream), peer);
+                    self.let_in(service, stream, peer);
                 }
                 Err(error) if error.kind() == ErrorKind::ConnectionAborted => {}
                 Err(error) => {
@@ -86,14 +93,14 @@ impl Port {
     }
 
     /// Gives a connection a thread of its own.
-    fn let_in(self: &Arc<Port>, bench: &Arc<Bench>, idle: Option<Duration>, left: &Left, stream: Arc<TcpStream>, peer: SocketAddr) {
-        let (port, bench, left) = (Arc::clone(self), Arc::clone(bench), Arc::clone(left));
+    fn let_in(self: &Arc<Port>, service: &Arc<Service>, stream: TcpStream, peer: SocketAddr) {
+        let (port, service) = (Arc::clone(self), Arc::clone(service));
         port.present.fetch_add(1, Ordering::Relaxed);
         let guest = move || {
-            let served = attend(&port, &bench, idle, stream, peer);
+            let served = port.attend(&service, &Arc::new(stream), peer);
             port.present.fetch_sub(1, Ordering::Relaxed);
             if served {
-                left();
+                (service.left)();
             }
         };
         if let Err(error) = thread::Builder::new().spawn(guest) {
@@ -101,51 +108,42 @@ impl Port {
             complain(format!("{peer}: {error}; hung up on it"));
         }
     }
-}
 
-/// How a conversation ended.
-enum End {
-    /// The client left between two requests, or before the first.
-    Left,
-    /// It was no client: these words say how that was seen.
-    Stranger(String),
-    /// It was lost, or was silent for too long.
-    Lost(io::Error),
-}
-
-/// Talks with a connection until it ends, and says what was out of order. Answers whether a client was served.
-fn attend(port: &Port, bench: &Bench, idle: Option<Duration>, stream: Arc<TcpStream>, peer: SocketAddr) -> bool {
-    let mut seated = false;
-    let end = Wire::new(&stream, idle).map_or_else(End::Lost, |wire| {
-        let mut requests = BufReader::with_capacity(ROOM, wire);
-        if let Err(end) = port.first_word(&mut requests, &stream, idle) {
-            return end;
-        }
-        let _seat = port.seat.lock().unwrap_or_else(PoisonError::into_inner);
-        seated = true;
-        bench.count(Counts::come);
-        let end = converse(bench, port.account, &mut requests, idle);
-        bench.left();
-        end
-    });
-    let served = seated && !matches!(end, End::Stranger(_));
-    match end {
-        End::Left => {}
-        End::Stranger(how) => {
-            bench.count(Counts::stranger);
-            complain(format!("{peer}: no serprog client, {how}; hung up on it"));
-        }
-        End::Lost(error) => {
-            if error.kind() == ErrorKind::TimedOut {
-                bench.count(Counts::let_go);
+    /// Talks with a connection until it ends, and says what was out of order. Answers whether a client was served.
+    fn attend(&self, service: &Service, stream: &Arc<TcpStream>, peer: SocketAddr) -> bool {
+        let bench = &service.bench;
+        let mut seated = false;
+        let end = Wire::new(stream, service.idle).map_or_else(
+            |error| End::Lost(error.to_string()),
+            |wire| {
+                let mut requests = BufReader::with_capacity(ROOM, wire);
+                if let Err(end) = self.first_word(&mut requests, stream, service.idle) {
+                    return end;
+                }
+                let _seat = self.seat.lock().unwrap_or_else(PoisonError::into_inner);
+                seated = true;
+                bench.count(Counts::come);
+                let end = converse(bench, self.account, &mut requests, service.idle);
+                bench.left();
+                end
+            },
+        );
+        let served = seated && !matches!(end, End::Stranger(_));
+        match end {
+            End::Left => {}
+            End::Stranger(how) => {
+                bench.count(Counts::stranger);
+                complain(format!("{peer}: no serprog client, {how}; hung up on it"));
             }
-            complain(format!("{peer}: {}; the part waits for the next client", words(&error, idle)));
+            End::Silent(how) => {
+                bench.count(Counts::let_go);
+                complain(format!("{peer}: {how}; hung up on it"));
+            }
+            End::Lost(how) => complain(format!("{peer}: {how}; the part waits for the next client")),
         }
+        served
     }
-    served
-}
 
-impl Port {
     /// Waits for the first byte that a connection says, which stays to be read: it has to be a command that is served.
     fn first_word(&self, requests: &mut BufReader<Wire<'_>>, stream: &Arc<TcpStream>, idle: Option<Duration>) -> Result<(), End> {
         let patience = idle.map_or(FIRST_WORD, |idle| idle.min(FIRST_WORD));
@@ -158,16 +156,32 @@ impl Port {
             Ok(Some(byte)) => Err(End::Stranger(format!("its first byte is {byte:02X}h"))),
             Ok(None) => Err(End::Left),
             Err(error) if error.kind() == ErrorKind::ConnectionReset => Err(End::Left),
-            Err(error) => Err(ended(error)),
+            Err(error) => Err(End::of(&error, &format!("not a word for {} seconds", patience.as_secs_f64()))),
         }
     }
 }
 
-/// How a conversation ends with an error of its connection.
-fn ended(error: io::Error) -> End {
-    match error.kind() {
-        ErrorKind::InvalidData => End::Stranger(error.to_string()),
-        _ => End::Lost(error),
+/// How a conversation ended. The words say why.
+enum End {
+    /// The client left between two requests, or before the first.
+    Left,
+    /// It was no client.
+    Stranger(String),
+    /// It was silent for too long.
+    Silent(String),
+    /// It was lost.
+    Lost(String),
+}
+
+impl End {
+    /// How a conversation ends with an error of its connection; if that is silence, these words say so.
+    fn of(error: &io::Error, silence: &str) -> End {
+        match error.kind() {
+            ErrorKind::InvalidData => End::Stranger(error.to_string()),
+            ErrorKind::TimedOut => End::Silent(silence.to_string()),
+            ErrorKind::UnexpectedEof => End::Lost("it left in the middle of a request".to_string()),
+            _ => End::Lost(error.to_string()),
+        }
     }
 }
 
@@ -178,24 +192,33 @@ fn converse(bench: &Bench, account: u8, requests: &mut BufReader<Wire<'_>>, idle
     let linger = |time| linger(stream, time);
     let mut client = Client::new(bench, account, &linger);
     client.until = patience();
-    loop {
+    let end = loop {
         requests.get_mut().until = client.until;
-        let reply = match client.reply(requests) {
-            Ok(Some(reply)) => reply,
-            Ok(None) => return requests.get_mut().flush().map_or_else(ended, |()| End::Left),
-            Err(error) => return ended(error),
-        };
-        if let Err(error) = requests.get_mut().put(&reply.bytes) {
-            return ended(error);
+        match answer(&mut client, requests) {
+            Ok(Some(Request::Frame)) => client.until = patience(),
+            Ok(Some(Request::Other)) => {}
+            Ok(Some(Request::Unknown(byte))) => break Ok(End::Stranger(format!("it said {byte:02X}h in place of a command"))),
+            Ok(None) => break Ok(End::Left),
+            Err(error) => break Err(error),
         }
-        match reply.request {
-            Request::Frame => client.until = patience(),
-            Request::Other => {}
-            Request::Unknown(byte) => {
-                let _ = requests.get_mut().flush(); // it is hung up on in any case
-                return End::Stranger(format!("it said {byte:02X}h in place of a command"));
+    };
+    let seconds = idle.unwrap_or_default().as_secs_f64();
+    end.unwrap_or_else(|error| End::of(&error, &format!("no frame for {seconds} seconds (--idle)")))
+}
+
+/// Answers one request, and says what it was. If it is the last one, the answer is sent at once.
+fn answer(client: &mut Client<'_>, requests: &mut BufReader<Wire<'_>>) -> io::Result<Option<Request>> {
+    let reply = client.reply(requests)?;
+    let wire = requests.get_mut();
+    match reply {
+        Some(Reply { bytes, request }) => {
+            wire.put(&bytes)?;
+            if let Request::Unknown(_) = request {
+                wire.flush()?;
             }
+            Ok(Some(request))
         }
+        None => wire.flush().map(|()| None),
     }
 }
 
@@ -218,16 +241,6 @@ fn linger(stream: &TcpStream, time: Duration) -> bool {
 /// Whether an error says no more than that nothing has come yet.
 fn is_patience(error: &io::Error) -> bool {
     matches!(error.kind(), ErrorKind::WouldBlock | ErrorKind::TimedOut | ErrorKind::Interrupted)
-}
-
-/// How a connection was lost, in words.
-fn words(error: &io::Error, idle: Option<Duration>) -> String {
-    match (error.kind(), idle) {
-        (ErrorKind::UnexpectedEof, _) => "it left in the middle of a request".to_string(),
-        (ErrorKind::TimedOut, Some(idle)) => format!("no frame for {} seconds (--idle)", idle.as_secs_f64()),
-        (ErrorKind::TimedOut, None) => "it said nothing".to_string(),
-        _ => error.to_string(),
-    }
 }
 
 /// A connection. Replies are kept until the next request has to be waited for.
