@@ -1,5 +1,6 @@
 //! `oxterin bill`: frames from text, and which account pays for the time that the part was busy.
 use crate::complaint::{complaint, Complaint};
+use crate::desk::Desk;
 use crate::frames::{self, Frames, LINE_HELP, UNSAID_HELP, UNSAID_VALUED};
 use crate::fresh::{PART_FLAGS, PART_HELP, PART_VALUED};
 use crate::options::Given;
@@ -30,7 +31,7 @@ as they were last saved, also while a server uses them.
 A tick for which the part is busy is billed to the account whose frame began the operation, whoever polls afterwards. It
 is counted from the end of that frame to the end of the operation, or of the reset that stops it. Without --state the
 bill begins with an empty ledger and an idle part. An operation that still runs at the end is billed up to there. The
-bill has a row for each account that began an operation, with a bar in proportion to its total:
+bill has a row for each account that began an operation or was billed, with a bar in proportion to its total:
 
   account   total ticks   most for one operation   operations
         7     1,600,012                1,600,000            2   ##############################
@@ -38,10 +39,11 @@ bill has a row for each account that began an operation, with a bar in proportio
       all     1,650,012                1,600,000            3
 
 Options:
-{PART_HELP}{STATE_HELP}{UNSAID_HELP}  --close             closes a month: the bill is written, then the books of --state are emptied and saved. An
-                      operation that is running stays its account's: what it is billed from then on is in the
-                      new books, and their most for one operation counts all of its ticks. If the bill cannot be
-                      written, the books stay as they were. A server that uses the state has to be ended first
+{PART_HELP}{STATE_HELP}{UNSAID_HELP}  --close             closes a month: the bill is written, then the books of --state are emptied and saved. The state
+                      as it was stays beside it, as FILE.closed-TICK. An operation that is running stays its
+                      account's: what it is billed from then on is in the new books, and their most for one operation
+                      counts all of its ticks. If the bill cannot be written, the books stay as they were. A server
+                      that uses the state has to be ended first
   --csv               comma-separated values in place of the table, with the heads account,total,most,operations
   --html OUT          beside the table or --csv, the bill as a page for a browser goes to OUT, whole: a line for each
                       operation, with its frame, what it was billed, and who sent frames while it ran
@@ -69,35 +71,34 @@ pub fn bill(words: &[String]) -> Result<(), Complaint> {
     }
 }
 
-/// The bill of the books in a state. It is only read, unless the books are closed.
+/// The bill of the books in a state, with the ticks that have passed since the last frame. It is only read, unless the books are closed.
 fn of_books(path: &str, given: &Given) -> Result<(), Complaint> {
     apart(given, &[])?;
     let page = hold_page(given)?;
-    if !given.has("--close") {
-        let tally = Tally::new(state::load(path)?, true);
-        return hand_out(&tally, path, given, page);
-    }
-    let (desk, held) = state::open(path)?;
+    let (mut desk, held) = match given.has("--close") {
+        true => state::open(path).map(|(desk, held)| (desk, Some(held)))?,
+        false => (state::load(path)?, None),
+    };
+    desk.settle();
     let tally = Tally::new(desk, true);
     hand_out(&tally, path, given, page)?;
-    close(tally, held)
+    held.map_or(Ok(()), |held| close(tally.desk, held))
 }
 
-/// The bill of frames, on a fresh part or in the books of a state.
+/// The bill of frames, on a fresh part or in the books of a state. These are saved after the bill was written, so that frames whose bill nobody
+/// got can be sent again.
 fn of_frames(given: &Given) -> Result<(), Complaint> {
     apart(given, &[frames::source(given)])?;
     let page = hold_page(given)?;
-    let (desk, mut kept) = state::desk(given)?;
+    let (desk, kept) = state::desk(given)?;
     let mut tally = Tally::new(desk, page.is_some());
     let mut frames = Frames::open("bill", given)?;
     add_up(&mut tally, &mut frames)?;
-    if let Some(held) = &mut kept {
-        held.save(&state::encode(&tally.desk))?;
-    }
     hand_out(&tally, frames.name(), given, page)?;
     match kept {
-        Some(held) if given.has("--close") => close(tally, held),
-        _ => Ok(()),
+        Some(held) if given.has("--close") => close(tally.desk, held),
+        Some(mut held) => held.save(&state::encode(&tally.desk)),
+        None => Ok(()),
     }
 }
 
@@ -117,10 +118,11 @@ fn hand_out(tally: &Tally, name: &str, given: &Given, page_file: Option<Held>) -
     }
 }
 
-/// Empties the books and saves them.
-fn close(mut tally: Tally, mut held: Held) -> Result<(), Complaint> {
-    tally.desk.close();
-    held.save(&state::encode(&tally.desk))
+/// Empties the books and saves them, having kept a copy of what they were.
+fn close(mut desk: Desk, mut held: Held) -> Result<(), Complaint> {
+    state::keep_closed(held.path(), &desk)?;
+    desk.close();
+    held.save(&state::encode(&desk))
 }
 
 /// Sends all frames.

@@ -30,6 +30,7 @@ pub fn complain(what: impl fmt::Display) {
     }
 }
 
+/// Writes a line to standard error.
 fn write(line: &str) {
     let _ = io::stderr().write_all(line.as_bytes());
 }
@@ -55,6 +56,7 @@ pub fn speak_aside() {
     }
 }
 
+/// Says what comes, as long as something can come.
 fn speak(said: &Receiver<Said>) {
     for said in said {
         match said {

@@ -11,9 +11,11 @@ pub struct Desk {
     pub ledger: Ledger,
     /// The ticks that have passed, before the frames and with their bytes.
     pub tick: u128,
+    /// How many frames were accepted.
+    pub sent: u64,
     /// Ticks that have passed since the last frame and go to the next one.
     pub waiting: u64,
-    /// What `tick` was when the ledger's tables were empty.
+    /// What `tick` was when the ledger's tables were last emptied.
     pub opened: u128,
     /// How many frames were accepted since.
     pub frames: u64,
@@ -54,6 +56,7 @@ impl Desk {
             part,
             ledger: Ledger::empty(),
             tick: 0,
+            sent: 0,
             waiting: 0,
             opened: 0,
             frames: 0,
@@ -83,12 +86,34 @@ impl Desk {
         let ticks = total(&self.ledger) - before;
         self.tick += u128::from(signals.elapsed) + u128::from(signals.frame_ticks());
         self.waiting = 0;
+        self.sent += 1;
         self.frames += 1;
         let billed = owner.filter(|_| ticks > 0).map(|account| Billed { account, ticks });
         Ok(Sent { exchange, billed })
     }
 
-    /// The ticks that have passed since the tables were empty.
+    /// Whether ticks that wait for the next frame would come off an operation.
+    pub fn owes(&self) -> bool {
+        self.waiting > 0 && self.part.record.busy > 0
+    }
+
+    /// The frame with which ticks that wait pass at once: one of no bits, to which a busy part does nothing, for whoever pays for them.
+    pub fn settling(&self) -> Frame {
+        Frame {
+            input: Vec::new(),
+            signals: Signals::whole(&[]),
+            named: Some(self.ledger.running.owner().unwrap_or(0)),
+        }
+    }
+
+    /// Lets ticks that wait pass at once, if they come off an operation. If the ledger is full, they go on waiting.
+    pub fn settle(&mut self) {
+        if self.owes() {
+            let _ = self.send(&self.settling());
+        }
+    }
+
+    /// The ticks that have passed since the tables were last emptied.
     pub fn passed(&self) -> u128 {
         self.tick - self.opened
     }

@@ -1,4 +1,5 @@
 //! Frames as lines of text ask for them, for every subcommand that sends frames from a file.
+use crate::begin::{At, Begin};
 use crate::complaint::{complain, complaint, Complaint};
 use crate::lines::thousands;
 use crate::options::{account, account_of, byte_ticks, level_of, number, ticks_per_byte, wp_high, Given};
@@ -67,6 +68,8 @@ pub struct Frames {
     pub read: u64,
     /// How many bytes there are, if that is known.
     pub whole: Option<u64>,
+    /// How far the frames have come, by the lines alone.
+    at: At,
 }
 
 impl Frames {
@@ -85,6 +88,7 @@ impl Frames {
             line: 0,
             read: 0,
             whole: text.whole,
+            at: At::default(),
         })
     }
 
@@ -116,10 +120,20 @@ impl Frames {
         }
     }
 
-    /// The frame of a line, if it has one.
-    fn frame(&self, line: &[u8]) -> Result<Option<Frame>, Complaint> {
+    /// The frame of a line, if it has one. A line with which a server begins has to fit those before it.
+    fn frame(&mut self, line: &[u8]) -> Result<Option<Frame>, Complaint> {
         let line = line.strip_suffix(b"\n").unwrap_or(line);
-        read(line, self.unsaid).map_err(|(column, words)| complaint(format!("{}, column {column}: {words}", self.place())))
+        if let Some(begin) = Begin::read(line) {
+            self.at = begin
+                .follows(self.at)
+                .map_err(|words| complaint(format!("{}: {words}", self.place())))?;
+        }
+        let frame = read(line, self.unsaid).map_err(|(column, words)| complaint(format!("{}, column {column}: {words}", self.place())))?;
+        if let Some(Frame { signals, .. }) = &frame {
+            self.at.tick += u128::from(signals.elapsed) + u128::from(signals.frame_ticks());
+            self.at.frames += 1;
+        }
+        Ok(frame)
     }
 
     /// The next frame with the number of its line; none at the end of the text.
@@ -319,7 +333,7 @@ fn bytes(word: &Word<'_>) -> Result<Vec<u8>, Fault> {
         return Err((
             word.column + at,
             format!(
-                "{}: bytes are pairs of hexadecimal digits; /BITS, +TICKS, @TICKS, wp=low or wp=high and account=N may stand beside them",
+                "{}: bytes are pairs of hexadecimal digits; /BITS, +TICKS, @TICKS, wp=low or wp=high and account=N may come with them",
                 word.text
             ),
         ));

@@ -1,6 +1,7 @@
 //! The command `oxterin`: the proved part for people at a bench.
 #![forbid(unsafe_code)]
 
+mod begin;
 mod bill;
 mod books;
 mod complaint;

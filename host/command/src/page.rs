@@ -186,7 +186,7 @@ fn operations_table(tally: &Tally) -> String {
     format!(
         "<section>\n\
          <h2>Operations</h2>\n\
-         <p class=\"note\">Each began at the end of the frame that stands beside it. Ticks are counted from the start.{earlier}</p>\n\
+         <p class=\"note\">Each began at the end of the frame beside it. Ticks are counted from the start.{earlier}</p>\n\
          <table class=\"operations\">\n\
          <thead>\n\
          <tr><th class=\"number\">Began at tick</th><th class=\"number\">Line</th><th>Frame</th><th class=\"number\">Account</th>\

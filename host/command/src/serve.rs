@@ -7,11 +7,12 @@ mod log;
 mod port;
 mod serprog;
 
+use crate::begin::{At, Begin};
 use crate::complaint::{complain, complaint, speak_aside, Complaint};
 use crate::desk::Desk;
 use crate::fresh::{PART_FLAGS, PART_HELP, PART_VALUED};
 use crate::image;
-use crate::lines::{counted, thousands};
+use crate::lines::counted;
 use crate::options::{self, Given};
 use crate::paths::apart;
 use crate::source::quoted;
@@ -24,6 +25,7 @@ use log::Log;
 use oxterin::{Part, Record, Settings, Size};
 use oxterin_signals::{Awaited, Signal};
 use port::{Port, Service};
+use std::borrow::Cow;
 use std::io::{self, Write};
 use std::sync::mpsc::{channel, Receiver, Sender};
 use std::sync::Arc;
@@ -68,9 +70,9 @@ if that was said. Then, for a part of 131,072 bytes with flashrom 1.4 or later, 
 Clients of one port are served one after the other, and those of different ports at the same time. One SPI operation
 (13h) is one chip-select frame: the bytes sent, then a zero for each byte to be read. It reaches the part when the
 request is whole, so a client that stops in the middle of one keeps nobody waiting. A frame has at most 8,192 bytes; a
-longer one is answered with NAK. A connection whose first byte is no serprog command, such as a browser's, is hung up
-on, and so is one that later sends a byte above 15h in place of a command. There is no password: whoever may open a
-connection on this machine may send frames.
+longer one is answered with NAK. A connection whose first byte is no command that is served, such as a browser's, is
+hung up on, and so is one that speaks STUN, or that later sends a byte above 15h in place of a command. There is no
+password: whoever may open a connection on this machine may send frames.
 
 Busy ticks are billed to the account whose frame began the operation, whoever polls afterwards. oxterin bill --state
 FILE shows the bill at any time; oxterin bill LOG shows it from a log.
@@ -88,9 +90,11 @@ come for a quarter of a second, when a client leaves, every five seconds under l
 and SIGHUP end the server after that. OUT is made at once if it is missing. No other oxterin can save them meanwhile.
 
 A line of the log is one that oxterin run takes: the bytes, +TICKS elapsed before it, @TICKS of each byte, wp=low,
-account=N, and as a comment status byte 1 afterwards and the outcome. A refused frame is a comment. A fresh part's log
-begins with the options that give the same bill; it may not be added to frames of another part. Logs are written in
-blocks, and when no frame has come for a quarter of a second.
+account=N, and as a comment status byte 1 afterwards and the outcome. A refused frame is a comment. Each server begins
+with a comment that says from where it goes on, and for a fresh part with which options oxterin bill gives the same
+bill; oxterin bill complains if frames are missing in between. The log of a fresh part must be without other frames.
+Logs are written in blocks, and when no frame has come for a quarter of a second. On the way out the ticks since the
+last frame are billed by a frame of no bits, if the part is busy.
 
 SIGUSR1 writes the counters to standard error: since when, frames, refusals by number, busy ticks, clients.
 "
@@ -137,18 +141,18 @@ pub fn serve(words: &[String]) -> Result<(), Complaint> {
     let status = given.value("--status").map(|path| STATUS.hold(path)).transpose()?;
     let (desk, state) = state::desk(&given)?;
     let ports = wanted.iter().map(|door| door.open()).collect::<Result<Vec<_>, _>>()?;
-    let replay = replay(&desk);
-    let (lines, json) = logs(&given, replay.is_some())?;
+    let (lines, json) = logs(&given, &desk)?;
     let awaited = oxterin_signals::block();
     speak_aside();
     let (reasons, ended) = channel();
+    let mut bench = Bench::new(desk, wp_high, ticks_per_byte, speed).with_logs(lines, json);
+    bench.watched = status.is_some();
     let service = Arc::new(Service {
-        bench: Bench::new(desk, wp_high, ticks_per_byte, speed),
+        bench,
         idle,
         left: when_left(given.has("--once"), &reasons),
     });
     let keeper = Arc::new(Keeper::new(&service.bench, array, state, status)?);
-    keep_logs(&service.bench, lines, json, replay);
     announce(&wanted, &ports)?;
     listen(awaited, &reasons);
     for port in ports {
@@ -169,6 +173,9 @@ pub fn serve(words: &[String]) -> Result<(), Complaint> {
 fn read(words: &[String]) -> Result<Given, Complaint> {
     let given = Given::read(words, &[&PART_VALUED[..], &VALUED].concat(), &[&PART_FLAGS[..], &FLAGS].concat())?;
     match given.words.first() {
+        Some(word) if given.has("--clock") && decimal(word).is_some() => Err(complaint(format!(
+            "serve takes only options, and was given {word}; write --clock={word}"
+        ))),
         Some(word) => Err(complaint(format!(
             "serve takes only options, and was given {word}; --help lists them"
         ))),
@@ -268,36 +275,28 @@ fn door(text: &str, unsaid: Option<u8>) -> Result<Door, Complaint> {
     Ok(Door { number, account, words })
 }
 
-/// The logs that the options ask for, of a part that is fresh or goes on.
-fn logs(given: &Given, fresh: bool) -> Result<(Option<Log>, Option<Log>), Complaint> {
-    let [lines, json] = ["--log", "--json"].map(|option| given.value(option).map(|path| (option, path)));
-    if let Some((option, path)) = lines {
-        log::check(option, path, fresh)?;
-    }
-    if let Some((option, path)) = json {
-        log::check(option, path, false)?;
-    }
-    let open = |asked: Option<(&'static str, &str)>| asked.map(|(option, path)| Log::open(option, path)).transpose();
-    Ok((open(lines)?, open(json)?))
+/// The logs that the options ask for. The one that replays begins with a line that says from where.
+fn logs(given: &Given, desk: &Desk) -> Result<(Option<Log>, Option<Log>), Complaint> {
+    let (lines, json) = (given.value("--log"), given.value("--json"));
+    let replay = replay(desk);
+    lines.map_or(Ok(()), |path| log::check("--log", path, replay.is_some()))?;
+    json.map_or(Ok(()), |path| log::check("--json", path, false))?;
+    let begin = |path| match &replay {
+        Some(options) => Begin::Fresh(format!("bill it by oxterin bill {}{options}", shown(path))),
+        None => Begin::GoesOn(At {
+            tick: desk.tick,
+            frames: desk.sent,
+        }),
+    };
+    let lines = lines.map(|path| Log::open("--log", path, &begin(path).line(&now()))).transpose()?;
+    Ok((lines, json.map(|path| Log::open("--json", path, "")).transpose()?))
 }
 
-/// Begins the logs. The one that replays says with which options, if its part is fresh.
-fn keep_logs(bench: &Bench, lines: Option<Log>, json: Option<Log>, replay: Option<String>) {
-    let mut shared = bench.lock();
-    let tick = thousands(shared.desk.tick);
-    shared.lines = lines;
-    shared.json = json;
-    if let Some(log) = &mut shared.lines {
-        let path = match log.path().chars().any(char::is_control) {
-            true => "FILE".into(),
-            false => quoted(log.path()),
-        };
-        let line = match replay {
-            Some(options) => format!("# {}: a fresh part; the bill of what follows: oxterin bill {path}{options}", now()),
-            None => format!("# {}: goes on from a state at tick {tick}", now()),
-        };
-        log.tell(|bytes| bytes.extend(line.as_bytes()));
-        log.flush();
+/// A path as a word for the shell, in one line.
+fn shown(path: &str) -> Cow<'_, str> {
+    match path.chars().any(char::is_control) {
+        true => "FILE".into(),
+        false => quoted(path),
     }
 }
 

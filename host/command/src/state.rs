@@ -9,7 +9,7 @@ use crate::options::Given;
 use crate::source::quoted;
 use crate::whole::{Held, Kind};
 use oxterin::{Ledger, Part, Record, Refusal, Running, Settings};
-use std::fs::File;
+use std::fs::{self, File};
 use std::io::{self, Read};
 
 /// What `--state` means, for every subcommand that has it.
@@ -31,7 +31,7 @@ const VERSION: u64 = 1;
 /// The bytes of a number.
 const WORD: usize = 8;
 /// The bytes before the array: the first ones, the words, and the register.
-const HEAD: usize = WORD * (1 + 26 + 3 * Ledger::ACCOUNTS) + Part::REGISTER;
+const HEAD: usize = WORD * (1 + 27 + 3 * Ledger::ACCOUNTS) + Part::REGISTER;
 /// The bytes beside the array: those before it, and the checksum.
 const BESIDE: usize = HEAD + WORD;
 /// No state has more bytes.
@@ -78,11 +78,23 @@ pub fn make(path: &str) -> Result<Held, Complaint> {
     }
 }
 
+/// Keeps a desk beside its state as it is before its books are emptied: as FILE.closed-TICK, at a name at which nothing is. Books with nothing
+/// in them are not kept.
+pub fn keep_closed(path: &str, desk: &Desk) -> Result<(), Complaint> {
+    if desk.accounts().is_empty() {
+        return Ok(());
+    }
+    let first = format!("{path}.closed-{}", desk.tick);
+    let mut names = std::iter::once(first.clone()).chain((2..).map(|number| format!("{first}-{number}")));
+    let name = names.find(|name| fs::symlink_metadata(name).is_err()).expect("a name is free");
+    make(&name)?.save(&encode(desk))
+}
+
 /// What a state says. Whoever uses it meanwhile is not disturbed: it is always whole.
 pub fn load(path: &str) -> Result<Desk, Complaint> {
     let bytes = read(path).map_err(|error| match error.kind() {
         io::ErrorKind::NotFound => none_there(path),
-        _ => complaint(format!("{path}: {error}")),
+        _ => complaint(format!("{path}: {error}; name a file that can be read")),
     })?;
     decode(&bytes).map_err(|wrong| complaint(format!("{path}: {wrong}")))
 }
@@ -108,6 +120,7 @@ pub fn encode(desk: &Desk) -> Vec<u8> {
         part,
         ledger,
         tick,
+        sent,
         waiting,
         opened,
         frames,
@@ -120,7 +133,7 @@ pub fn encode(desk: &Desk) -> Vec<u8> {
     put(&part.record.words());
     put(&part.settings.words());
     put(&halves(*tick));
-    put(&[*waiting]);
+    put(&[*sent, *waiting]);
     put(&halves(*opened));
     put(&[*frames, ledger.running.account, ledger.running.billed]);
     for table in [&ledger.totals, &ledger.most, &ledger.numbers] {
@@ -136,7 +149,7 @@ pub fn encode(desk: &Desk) -> Vec<u8> {
 /// The desk of a state; if it is none, the words say what is wrong and what to do.
 pub fn decode(bytes: &[u8]) -> Result<Desk, String> {
     let Some(rest) = bytes.strip_prefix(MAGIC) else {
-        return Err("no state of oxterin, which begins with OXTSTATE; name another file, or make one: oxterin state FILE --new".into());
+        return Err("not a state of oxterin, which begins with OXTSTATE; name another file, or make one: oxterin state FILE --new".into());
     };
     let version = Words(rest).next().unwrap_or(VERSION);
     if version != VERSION {
@@ -148,9 +161,12 @@ pub fn decode(bytes: &[u8]) -> Result<Desk, String> {
     let mut words = Words(&rest[WORD..]);
     let _length = words.next();
     let array = words.next().unwrap_or(0) as usize;
-    let record = Record::from_words(&words.take()).ok_or_else(|| damaged("its record is none"))?;
+    let record =
+        Record::from_words(&words.take()).ok_or_else(|| damaged("a flag of its record is neither 0 nor 1, or its mode is above 2"))?;
     let settings = Settings::of_words(&words.take());
-    let (tick, waiting, opened) = (words.double(), words.one(), words.double());
+    let tick = words.double();
+    let [sent, waiting] = words.take();
+    let opened = words.double();
     let [frames, account, billed] = words.take();
     let ledger = Ledger {
         totals: words.take(),
@@ -167,6 +183,7 @@ pub fn decode(bytes: &[u8]) -> Result<Desk, String> {
             part,
             ledger,
             tick,
+            sent,
             waiting,
             opened,
             frames,
@@ -215,7 +232,7 @@ fn acceptable(part: &Part) -> Result<(), String> {
 
 /// What is said of a damaged state.
 fn damaged(how: &str) -> String {
-    format!("a damaged state: {how}; nothing was changed; take a copy of it that is whole")
+    format!("a damaged state: {how}; nothing was changed; use an undamaged copy")
 }
 
 /// A number of 128 bits as two words, the lower one first.
@@ -304,6 +321,7 @@ mod tests {
                 running: Running { account: 7, billed: 44 },
             },
             tick: (5 << 64) + 6,
+            sent: 99,
             waiting: 77,
             opened: (3 << 64) + 9,
             frames: 88,
@@ -323,20 +341,20 @@ mod tests {
         let bytes = encode(&desk());
         let word = |place: usize| u64::from_le_bytes(bytes[place..place + 8].try_into().expect("eight bytes"));
         assert_eq!(&bytes[..8], b"OXTSTATE");
-        assert_eq!([8, 16, 24].map(word), [1, 72_032, 65_536]);
+        assert_eq!([8, 16, 24].map(word), [1, 72_040, 65_536]);
         assert_eq!([32, 40, 48, 56, 64, 72, 80].map(word), [1, 0, 1, 0, 1, 0, 600_000]);
         assert_eq!([88, 144].map(word), [11, 18]);
-        assert_eq!([152, 160, 168, 176, 184, 192].map(word), [6, 5, 77, 9, 3, 88]);
-        assert_eq!([200, 208].map(word), [7, 44]);
+        assert_eq!([152, 160, 168, 176, 184, 192, 200].map(word), [6, 5, 99, 77, 9, 3, 88]);
+        assert_eq!([208, 216].map(word), [7, 44]);
         assert_eq!(
-            [216, 2_256, 2_264, 4_304, 4_312, 6_352].map(word),
+            [224, 2_264, 2_272, 4_312, 4_320, 6_360].map(word),
             [1_000, 1_255, 2_000, 2_255, 3_000, 3_255]
         );
         assert_eq!(
-            [bytes[6_360], bytes[6_487], bytes[6_488 + 0x1234]],
+            [bytes[6_368], bytes[6_495], bytes[6_496 + 0x1234]],
             [0, 127, ((0x1234 * 7) >> 3) as u8]
         );
-        assert_eq!(bytes.len(), 72_032);
+        assert_eq!(bytes.len(), 72_040);
     }
 
     #[test]
@@ -376,7 +394,7 @@ mod tests {
         };
         assert!(changed(0, 0).contains("OXTSTATE"));
         assert!(changed(8, 2).contains("version 2"));
-        assert!(changed(16, 72_031).contains("it says 72,031 bytes, and has 72,032"));
+        assert!(changed(16, 72_039).contains("it says 72,039 bytes, and has 72,040"));
         assert!(changed(16, u64::MAX).contains("lengths"));
         assert!(changed(24, u64::MAX).contains("lengths"));
         assert!(changed(24, 65_535).contains("lengths"));
@@ -385,7 +403,7 @@ mod tests {
         assert!(changed(80, 60_000_001).contains("refusal 6"));
         assert!(changed(72, 1).contains("refusal 6"));
         assert!(changed(88, 0).contains("refusal 7"));
-        assert!(changed(184, 6).contains("opened"));
+        assert!(changed(192, 6).contains("opened"));
     }
 
     #[test]

@@ -26,9 +26,11 @@ pub fn table(tally: &Tally) -> String {
 /// A row for each account and one for all.
 pub fn accounts(desk: &Desk) -> String {
     let accounts = desk.accounts();
-    match accounts.is_empty() {
-        true => "Nothing was billed to anyone: no frame began an operation.\n".to_string(),
-        false => rows(&accounts, desk.all()),
+    let runs = desk.part.record.busy > 0 && desk.ledger.running.owner().is_some();
+    match (accounts.is_empty(), runs) {
+        (false, _) => rows(&accounts, desk.all()),
+        (true, false) => "Nothing was billed to anyone: no frame began an operation.\n".to_string(),
+        (true, true) => "Nothing was billed to anyone yet.\n".to_string(),
     }
 }
 

@@ -4,7 +4,7 @@
 //! lock is on the file itself, so each new one is locked before it takes the name.
 use crate::complaint::{complaint, Complaint};
 use std::ffi::{OsStr, OsString};
-use std::fs::{self, File, OpenOptions, Permissions, TryLockError};
+use std::fs::{self, File, Metadata, OpenOptions, Permissions, TryLockError};
 use std::hash::{BuildHasher, RandomState};
 use std::io::{self, ErrorKind, Write};
 use std::os::unix::ffi::OsStrExt;
@@ -35,20 +35,18 @@ impl Kind {
     /// when it was killed is removed.
     pub fn hold(self, path: &str) -> Result<Held, Complaint> {
         let place = self.place(path)?;
-        sweep(&place);
-        let there = lock(&place).map_err(|wrong| complaint(format!("{path}: {wrong}")))?;
-        if there
-            .as_ref()
-            .is_some_and(|file| file.metadata().is_ok_and(|old| old.permissions().readonly()))
-        {
+        if fs::metadata(&place).is_ok_and(|there| there.permissions().readonly()) {
             return Err(complaint(format!(
                 "{path}: a read-only file, so no {} is saved there; make it writable, or name another",
                 self.word
             )));
         }
-        New::beside(&place, 0o600)
-            .map(drop)
-            .map_err(|error| complaint(format!("{path}: {error}; name a file in a folder that can be written")))?;
+        let there = lock(&place).map_err(|wrong| complaint(format!("{path}: {wrong}")))?;
+        sweep(&place);
+        New::beside(&place, 0o600).map(New::remove).map_err(|error| match error.kind() {
+            ErrorKind::InvalidFilename => complaint(format!("{path}: {error}; choose a shorter one")),
+            _ => complaint(format!("{path}: {error}; name a file in a folder that can be written")),
+        })?;
         Ok(Held {
             path: path.to_string(),
             place,
@@ -59,7 +57,7 @@ impl Kind {
     /// The place that a path names. Devices, pipes and folders are none, nor are words that can name nothing but a folder.
     fn place(self, path: &str) -> Result<PathBuf, Complaint> {
         let Kind { word, such_as } = self;
-        let file = behind_links(path).ok_or_else(|| complaint(format!("{path}: a link that leads to itself; name a file")))?;
+        let file = past_links(path).ok_or_else(|| complaint(format!("{path}: a link that leads to itself; name a file")))?;
         if fs::metadata(&file).is_ok_and(|there| !there.is_file()) {
             return Err(complaint(format!(
                 "{path}: not a plain file, so no {word} is saved there; name a file"
@@ -85,19 +83,13 @@ impl Held {
         self.there.is_some()
     }
 
-    /// Whether the file has these bytes.
-    pub fn holds(&self, bytes: &[u8]) -> bool {
-        let as_long = self.there.as_ref().and_then(|file| file.metadata().ok());
-        as_long.is_some_and(|there| there.len() == bytes.len() as u64) && fs::read(&self.place).is_ok_and(|there| there == bytes)
-    }
-
     /// Puts the bytes in the place of the file's content: they go to a new file beside it, which then takes its name, owner and permissions.
     /// If that fails, what was there is as it was.
     pub fn save(&mut self, bytes: &[u8]) -> Result<(), Complaint> {
         let saved = self.replace(bytes);
         let new = saved.map_err(|error| match error.kind() {
             ErrorKind::AlreadyExists => complaint(format!(
-                "{}: another process made this file meanwhile; it is as that one left it",
+                "{}: another file has taken this name meanwhile; it is left as it is, and nothing is saved",
                 self.path
             )),
             _ => complaint(format!("{}: {error}; what was there is as it was", self.path)),
@@ -114,26 +106,25 @@ impl Held {
     /// The new file, with the name of the old one.
     fn replace(&self, bytes: &[u8]) -> io::Result<File> {
         let old = self.there.as_ref().map(File::metadata).transpose()?;
+        if self.there.as_ref().is_some_and(|there| !is_at(there, &self.place)) {
+            return Err(ErrorKind::AlreadyExists.into());
+        }
         let mode = old.as_ref().map_or(0o666, |old| old.mode() & 0o7777);
         let mut new = New::beside(&self.place, mode)?;
-        if let Some(old) = old {
-            let _ = fchown(&new.file, Some(old.uid()), Some(old.gid())); // only root may give files away
-            new.file.set_permissions(Permissions::from_mode(mode))?;
-        }
-        new.file.write_all(bytes)?;
-        new.file.sync_all()?;
-        match self.there {
-            Some(_) => new.rename(&self.place),
-            None => new.link(&self.place),
+        match new.fill(bytes, old.as_ref()) {
+            Ok(()) => new.take(&self.place, self.there.is_some()),
+            Err(error) => {
+                new.remove();
+                Err(error)
+            }
         }
     }
 }
 
-/// A new file beside another, locked, so that nobody sweeps it away. It is removed unless it takes the other's name.
+/// A new file beside another, locked, so that nobody sweeps it away. Its first name is removed, unless it takes the other's by renaming.
 struct New {
     path: PathBuf,
     file: File,
-    kept: bool,
 }
 
 impl New {
@@ -148,35 +139,49 @@ impl New {
                 Err(error) if error.kind() == ErrorKind::AlreadyExists => continue,
                 created => created?,
             };
-            let new = New { path, file, kept: false };
-            if new.file.try_lock().is_ok() && is_at(&new.file, &new.path) {
+            let locked = file.try_lock().is_ok() && is_at(&file, &path);
+            let new = New { path, file };
+            if locked {
                 return Ok(new);
             }
+            new.remove();
         }
         Err(io::Error::other("no name is free beside it"))
     }
 
-    /// Takes the name of the file that is there.
-    fn rename(mut self, place: &Path) -> io::Result<File> {
-        fs::rename(&self.path, place)?;
-        self.kept = true;
-        self.file.try_clone()
-    }
-
-    /// Takes a name at which no file is. Where a file cannot have two names at a time, it is renamed.
-    fn link(self, place: &Path) -> io::Result<File> {
-        match fs::hard_link(&self.path, place) {
-            Ok(()) => self.file.try_clone(),
-            Err(error) if error.kind() == ErrorKind::AlreadyExists => Err(error),
-            Err(_) => self.rename(place),
+    /// Gives it these bytes, and the owner and the permissions of an old file. Only root may give files away; others keep what is theirs.
+    fn fill(&mut self, bytes: &[u8], old: Option<&Metadata>) -> io::Result<()> {
+        if let Some(old) = old {
+            let _ = fchown(&self.file, Some(old.uid()), Some(old.gid()));
+            self.file.set_permissions(Permissions::from_mode(old.mode() & 0o7777))?;
         }
+        self.file.write_all(bytes)?;
+        self.file.sync_all()
     }
-}
 
-impl Drop for New {
-    fn drop(&mut self) {
-        if !self.kept {
-            let _ = fs::remove_file(&self.path);
+    /// Removes it.
+    fn remove(self) {
+        let _ = fs::remove_file(&self.path);
+    }
+
+    /// Takes the name of another file: of one that is there by renaming, and else by a link, which never replaces a file. Where a file cannot
+    /// have two names at a time, it is renamed in any case.
+    fn take(self, place: &Path, replaces: bool) -> io::Result<File> {
+        if !replaces {
+            match fs::hard_link(&self.path, place) {
+                Err(error) if error.kind() != ErrorKind::AlreadyExists => {}
+                linked => {
+                    let _ = fs::remove_file(&self.path);
+                    return linked.map(|()| self.file);
+                }
+            }
+        }
+        match fs::rename(&self.path, place) {
+            Ok(()) => Ok(self.file),
+            Err(error) => {
+                self.remove();
+                Err(error)
+            }
         }
     }
 }
@@ -189,7 +194,7 @@ fn create(path: &Path, mode: u32) -> io::Result<File> {
 /// The file at a place, locked; none if there is no file. The words say why it cannot be had.
 fn lock(place: &Path) -> Result<Option<File>, String> {
     loop {
-        let file = match File::open(place) {
+        let file = match OpenOptions::new().read(true).write(true).open(place) {
             Err(error) if error.kind() == ErrorKind::NotFound => return Ok(None),
             Err(error) => return Err(format!("{error}; name a file that can be read and written")),
             Ok(file) => file,
@@ -207,7 +212,7 @@ fn lock(place: &Path) -> Result<Option<File>, String> {
 
 /// Whether an open file is still the one at a place.
 fn is_at(file: &File, place: &Path) -> bool {
-    let identity = |there: fs::Metadata| (there.dev(), there.ino());
+    let identity = |there: Metadata| (there.dev(), there.ino());
     match (file.metadata(), fs::symlink_metadata(place)) {
         (Ok(open), Ok(there)) => identity(open) == identity(there),
         _ => false,
@@ -215,7 +220,7 @@ fn is_at(file: &File, place: &Path) -> bool {
 }
 
 /// What a path leads to if it is a link, and a link to a link, whether or not there is something; none if that never ends.
-pub fn behind_links(path: &str) -> Option<PathBuf> {
+pub fn past_links(path: &str) -> Option<PathBuf> {
     const MOST: usize = 40;
     let mut file = PathBuf::from(path);
     for _ in 0..MOST {
@@ -240,7 +245,7 @@ fn sync_folder(place: &Path) -> io::Result<()> {
     File::open(folder_of(place))?.sync_all()
 }
 
-/// What stands between the name of a file and the number of a new one beside it.
+/// What comes between the name of a file and the number of a new one beside it.
 const NEW: &[u8] = b".new-";
 /// How many hexadecimal digits that number has.
 const DIGITS: usize = 16;
@@ -264,9 +269,10 @@ fn is_beside(name: &OsStr, place: &Path) -> bool {
 fn sweep(place: &Path) {
     let Ok(entries) = fs::read_dir(folder_of(place)) else { return };
     for entry in entries.flatten().filter(|entry| is_beside(&entry.file_name(), place)) {
-        let is_file = entry.file_type().is_ok_and(|kind| kind.is_file());
-        let left = is_file && File::open(entry.path()).is_ok_and(|file| file.try_lock().is_ok());
-        if left {
+        if !entry.file_type().is_ok_and(|kind| kind.is_file()) {
+            continue;
+        }
+        if let Some(_left) = File::open(entry.path()).ok().filter(|file| file.try_lock().is_ok()) {
             let _ = fs::remove_file(entry.path());
         }
     }

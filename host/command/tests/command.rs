@@ -158,7 +158,7 @@ fn a_bad_line_names_its_place_and_saves_nothing() {
     assert_eq!(
         complained(&output),
         "oxterin: standard input, line 2, column 11: 0O: bytes are pairs of hexadecimal digits; \
-         /BITS, +TICKS, @TICKS, wp=low or wp=high and account=N may stand beside them\n"
+         /BITS, +TICKS, @TICKS, wp=low or wp=high and account=N may come with them\n"
     );
     assert_eq!(said(&output), "06 > FF ST 12\n");
     assert!(!after.exists());

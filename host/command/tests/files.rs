@@ -45,6 +45,7 @@ fn two_words_for_one_file_are_told_apart_by_file() {
         &["serve", "--port=0", "--save", "deep/../new", "--json", "new"],
         &["serve", "--port=0", "--save", "missing", "--log", "nowhere"],
         &["serve", "--port=0", "--log", "new", "--json", "new"],
+        &["serve", "--port=0", "--log", "-", "--json", "-"],
         &["serve", "--port=0", "--state", "bench", "--save", "bench"],
         &["serve", "--port=0", "--state", "bench", "--status", "bench"],
         &["run", "frames", "--save", "frames"],
@@ -93,6 +94,8 @@ fn standard_input_and_output_count_as_files() {
         (&["run", "-", "--save", "deep/../frames"], Some("frames"), None),
         (&["hex", "from", "image", "-"], None, Some("hard")),
         (&["hex", "to", "-", "image"], Some("image"), None),
+        (&["run", "frames", "--save", "bench"], None, Some("bench")),
+        (&["run", "frames"], None, Some("frames")),
     ] {
         let stdin = input.map_or_else(Stdio::null, |name| File::open(folder.join(name)).expect("a file").into());
         let append = |name| fs::OpenOptions::new().append(true).open(folder.join(name));
@@ -234,6 +237,92 @@ fn a_quiet_server_saves_though_its_client_stays() {
     let mut client = program(&server);
     assert!(until(|| (fs::read(&out).expect("there") == programmed()).then_some(())).is_some());
     client.ask(&[0x00], &[ACK]);
+}
+
+/// Neither a server that nobody comes to, nor a stranger, nor a client that changes nothing, replaces an older file. One that programs does.
+#[test]
+fn an_older_image_stays_until_the_array_changes() {
+    let out = folder("older").join("out");
+    let older = vec![0x3C; 65_536];
+    fs::write(&out, &older).expect("an older image");
+    let words = ["--size=65536", "--save", word(&out)];
+    let mut server = Server::start(&words);
+    assert!(server.ends_when_asked());
+    assert!(fs::read(&out).expect("there") == older);
+    let mut server = Server::start(&words);
+    server.client().send(b"GET / HTTP/1.1\r\n\r\n");
+    let mut client = server.client();
+    client.frame(&[0x05], &[0x10]);
+    drop(client);
+    assert!(server.ends_when_asked());
+    assert!(fs::read(&out).expect("there") == older);
+    let mut server = Server::start(&words);
+    drop(program(&server));
+    assert!(server.ends_when_asked());
+    assert!(fs::read(&out).expect("there") == programmed());
+}
+
+/// Somebody moves another file to the place of the one that a server saves, as when a backup is restored.
+#[test]
+fn a_file_that_takes_the_place_of_a_saved_one_is_not_replaced() {
+    let folder = folder("moved");
+    let (out, other) = (folder.join("out"), folder.join("other"));
+    let mut server = Server::start(&["--size=65536", "--save", word(&out)]);
+    fs::write(&other, "a backup").expect("a file");
+    fs::rename(&other, &out).expect("moved");
+    drop(program(&server));
+    server.says("another file has taken this name meanwhile");
+    server.signal("TERM");
+    assert!(!server.ends_well());
+    assert_eq!(fs::read(&out).expect("there"), b"a backup");
+    assert_eq!(files(&folder), ["out"]);
+}
+
+/// A log is a plain file of one server: a pipe that nobody reads would stop all clients.
+#[test]
+fn a_log_is_a_plain_file_of_one_server() {
+    let folder = folder("logs");
+    let log = folder.join("log");
+    for path in ["/dev/null", "/dev/stdout", word(&folder)] {
+        for option in ["--log", "--json"] {
+            let (code, complaint) = refusal(&["--port=0", option, path]);
+            assert!(
+                code == Some(2) && complaint.contains("not a plain file"),
+                "{option} {path}: {complaint}"
+            );
+        }
+    }
+    let _server = Server::start(&["--log", word(&log)]);
+    for option in ["--log", "--json"] {
+        let (code, complaint) = refusal(&["--port=0", option, word(&log)]);
+        assert!(
+            code == Some(2) && complaint.contains("another oxterin is writing this file"),
+            "{complaint}"
+        );
+    }
+}
+
+/// The limit that stands for a full disk is 16 blocks of 512 bytes. The part is served on; the log has whole lines, and the end says so.
+#[test]
+fn a_log_that_cannot_grow_ends_with_a_whole_line() {
+    let log = folder("full-log").join("log");
+    let limited = "trap '' XFSZ; ulimit -f 16; exec \"$@\"";
+    let mut shell = Command::new("sh");
+    let words = ["serve", "--port=0", "--log", word(&log)];
+    shell.args(["-c", limited, "sh", env!("CARGO_BIN_EXE_oxterin")]).args(words);
+    let mut server = Server::of(&mut shell, 1);
+    let mut client = server.client();
+    for _ in 0..5 {
+        client.frame(&[0x03, 0x00, 0x00, 0x00], &[0xFF; 1_000]);
+        std::thread::sleep(Duration::from_millis(300)); // so that each is written by itself
+    }
+    server.says("the log ends here, the part is served on");
+    client.frame(&[0x05], &[0x10]);
+    server.signal("TERM");
+    assert!(!server.ends_well());
+    server.says("the log ended before the server did");
+    let log = fs::read_to_string(&log).expect("a log");
+    assert!(log.ends_with(" # ST 10 read\n") && log.lines().count() < 6, "{}", log.len());
 }
 
 /// Which file is at a path: a new one has another number.

@@ -38,7 +38,7 @@ fn of_books(state: &Path) -> String {
 /// The options after a log's name in the command with which it begins.
 fn options(log: &Path) -> Vec<String> {
     let text = text(log);
-    let command = format!(": oxterin bill {}", word(log));
+    let command = format!("; bill it by oxterin bill {}", word(log));
     let (_, options) = text.lines().next().and_then(|line| line.split_once(&command)).expect("a command");
     options.split_whitespace().map(String::from).collect()
 }
@@ -627,7 +627,7 @@ fn the_json_log_has_the_same_frames_with_output_and_ticks_billed() {
     assert!(server.ends_when_asked());
 
     let (lines, objects) = (text(&log), text(&json));
-    let lines: Vec<&str> = lines.lines().filter(|line| !line.starts_with("# 20")).collect();
+    let lines: Vec<&str> = lines.lines().filter(|line| !line.starts_with("# oxterin serve 20")).collect();
     assert_eq!(objects.lines().count(), lines.len());
     let (mut twin, mut tick, mut totals) = (Twin::new(&SHORT), 0, BTreeMap::<u8, u64>::new());
     let mut refusals = 0;
@@ -675,7 +675,7 @@ fn the_json_log_has_the_same_frames_with_output_and_ticks_billed() {
 }
 
 /// A chip erase of 1,000,000 ticks is account 20's. The first server is stopped with 250,000 of them billed and 50,000 passed since the last
-/// frame. These are billed with the first frame of the second server, and 700,000 more until the end. There account 31 programs two bytes:
+/// frame. These are billed on the way out, and 700,000 more at the second server. There account 31 programs two bytes:
 /// 1,999 of 2,000 ticks, and the last with `run`, where account 7 begins a 4-KiB erase of 50,000 ticks: 10 pass, and 100 with `bill`. The
 /// month is closed. In the new one 1,000 ticks pass with `bill`, which make 1,110 for one operation, and the other 48,890 at a third server:
 /// 49,890 in all, and 50,000 for one operation that began in the old month. Account 31's byte takes 12.
@@ -695,11 +695,12 @@ fn books_go_on_from_server_to_server_and_are_closed_for_a_month() {
     client.frame(&[0x05], &[0x11]);
     client.wait(50_000);
     assert!(first.ends_when_asked());
-    let wanted = format!("{HEADS}20,250000,250000,1\n");
+    let wanted = format!("{HEADS}20,300000,300000,1\n");
     assert_eq!((of_books(&state), of_log(&log)), (wanted.clone(), wanted));
+    assert!(text(&log).ends_with("\n/0 +50000 account=20 # ST 11 nothing\n"));
     let shown = says(&["state", word(&state)]);
     assert!(
-        shown.contains("750,000 ticks left of an operation of account 20, billed so far for 250,000\n"),
+        shown.contains("700,000 ticks left of an operation of account 20, billed so far for 300,000\n"),
         "{shown}"
     );
 
@@ -877,9 +878,10 @@ fn a_delay_is_waited_for_with_the_clock_only() {
         let passed = start.elapsed();
         assert!(server.ends_when_asked());
         let lines = frames(&text(&log));
-        let [_, _, Line { elapsed, .. }] = lines[..] else {
+        let [_, _, Line { elapsed, .. }, ref last @ ..] = lines[..] else {
             panic!("{}", text(&log))
         };
+        let last: u64 = last.iter().map(|line| line.elapsed).sum(); // what passed on the way out
         let ticks = u64::from(ticks);
         if clock.is_some() {
             assert!(waited >= Duration::from_millis(milliseconds), "{waited:?} for {ticks} ticks");
@@ -888,7 +890,7 @@ fn a_delay_is_waited_for_with_the_clock_only() {
         } else {
             assert_eq!(elapsed, ticks);
         }
-        assert_eq!(of_log(&log), format!("{HEADS}0,{0},{0},1\n", elapsed.min(60_000_000)));
+        assert_eq!(of_log(&log), format!("{HEADS}0,{0},{0},1\n", (elapsed + last).min(60_000_000)));
     }
 }
 
@@ -949,7 +951,7 @@ fn logs_are_added_to() {
     fs::write(&log, "# kept\n\n").expect("written");
     fs::write(&json, "{}\n").expect("written");
     let mut before = (text(&log), text(&json));
-    for begin in ["a fresh part; ", "goes on from a state at tick 0"] {
+    for begin in ["a fresh part; ", "goes on at tick 0 after 1 frames"] {
         let mut server = Server::start(&["--once", "--log", word(&log), "--json", word(&json), "--state", word(&state)]);
         server.client().frame(&[0x05], &[0x10]);
         assert!(server.ends_well());
@@ -958,7 +960,7 @@ fn logs_are_added_to() {
         let [head, line] = added.lines().collect::<Vec<_>>()[..] else {
             panic!("{added}")
         };
-        assert!(head.starts_with("# 20") && head.contains(begin), "{head}");
+        assert!(head.starts_with("# oxterin serve 20") && head.contains(begin), "{head}");
         assert_eq!(line, "05 00 account=0 # ST 10 read");
         let object = r#"{"tick":0,"account":0,"bytes":"0500","output":"FF10","outcome":"read","billed":0,"billed_to":null}"#;
         assert_eq!(after.1, format!("{}{object}\n", before.1));
@@ -983,10 +985,7 @@ fn a_fresh_part_does_not_go_on_with_the_log_of_another() {
         let words = [&["--port", "0", "--log", word(&log), "--json", word(&json)], more].concat();
         let (code, said) = refusal(&words);
         assert_eq!(code, Some(2));
-        assert!(
-            said.contains("it has frames that were sent to another part, and this one is fresh"),
-            "{said}"
-        );
+        assert!(said.contains("it has frames already, and this part is fresh"), "{said}");
         assert_eq!((text(&log), json.exists()), (before.clone(), false));
     }
 }
@@ -1004,7 +1003,7 @@ fn a_log_whose_last_line_has_no_end_is_not_added_to() {
             let (code, said) = refusal(&[&["--port", "0"], &files[..]].concat());
             assert_eq!(code, Some(2), "{said}");
             let begin = format!("oxterin: {option} {}: ", word(&log));
-            assert!(said.starts_with(&begin) && said.contains("its last line has no end"), "{said}");
+            assert!(said.starts_with(&begin) && said.contains("its last line was cut off"), "{said}");
             assert_eq!(
                 (text(&log), fs::read(&state).expect("a state") == old, out.exists()),
                 (ragged.into(), true, false)

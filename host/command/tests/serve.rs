@@ -352,7 +352,10 @@ fn a_save_that_fails_later_does_not_end_the_server() {
     server.client().frame(&[0x05], &[0x12]);
     let mut once = Server::start(&["--once", "--save", word(&folder.join("out"))]);
     fs::remove_dir_all(&folder).expect("the folder goes");
-    once.client().ask(&[0x00], &[ACK]);
+    let mut client = once.client();
+    client.frame(&[0x06], &[]);
+    client.frame(&[0x02, 0x00, 0x00, 0x00, 0x5A], &[]);
+    drop(client);
     assert!(!once.ends_well());
 }
 
@@ -376,8 +379,8 @@ fn once_serves_a_single_client_and_saves_over_its_own_image() {
 fn lines_after(log: &Path, options: &str) -> String {
     let text = fs::read_to_string(log).expect("a log");
     let (first, rest) = text.split_once('\n').expect("a first line");
-    let wanted = format!("oxterin bill {}{options}", word(log));
-    assert!(first.starts_with("# 20") && first.ends_with(&wanted), "{first}");
+    let wanted = format!(", a fresh part; bill it by oxterin bill {}{options}", word(log));
+    assert!(first.starts_with("# oxterin serve 20") && first.ends_with(&wanted), "{first}");
     rest.to_string()
 }
 

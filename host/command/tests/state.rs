@@ -127,6 +127,7 @@ fn a_month_is_closed_and_what_runs_goes_on() {
     );
     assert_eq!(bill(&["--close"], ""), format!("{heads}7,20000,20000,1\n"));
     assert_eq!(bill(&[], ""), heads);
+    assert_eq!(billed(&state.with_file_name("bench.closed-20000")), "7,20000,20000,1\n");
     assert_eq!(bill(&["--close"], ""), heads);
     assert_eq!(bill(&["-"], "05 00 account=12 +60000\n"), format!("{heads}7,30000,50000,0\n"));
     let shown = says(&["state", word(&state)], "");
@@ -154,6 +155,57 @@ fn a_bill_that_nobody_gets_closes_nothing() {
         .expect("the command ends");
     assert_eq!(ended.code(), Some(2));
     assert!(fs::read(&state).expect("there") == before);
+}
+
+/// Frames whose bill nobody got are not in the books, so they can be sent again.
+#[test]
+fn a_bill_of_frames_that_nobody_gets_saves_nothing() {
+    let state = fresh("unread-frames", &[]);
+    let frames = state.with_file_name("frames");
+    fs::write(&frames, DAY).expect("frames");
+    let before = fs::read(&state).expect("there");
+    for more in [&[][..], &["--close"]] {
+        let full = fs::OpenOptions::new().write(true).open("/dev/full").expect("a device that is full");
+        let ended = Command::new(env!("CARGO_BIN_EXE_oxterin"))
+            .args([&["bill", word(&frames), "--state", word(&state)], more].concat())
+            .stdout(full)
+            .stderr(Stdio::null())
+            .status()
+            .expect("the command ends");
+        assert_eq!(ended.code(), Some(2));
+        assert!(fs::read(&state).expect("there") == before);
+    }
+}
+
+/// A log in which a server goes on from elsewhere than the lines before have come, as after a kill: 6 frames and 1,050 ticks.
+#[test]
+fn a_log_with_a_gap_is_not_billed() {
+    let begin = |words: &str| format!("# oxterin serve 2026-11-16T01:26:41Z, {words}\n");
+    let bill = |log: &str| oxterin(&["bill", "--csv"], log);
+    let whole = format!(
+        "{}{DAY}{}05 00\n",
+        begin("a fresh part; .."),
+        begin("goes on at tick 1050 after 5 frames")
+    );
+    assert!(bill(&whole).status.success());
+    let later = format!(
+        "{}{DAY}{}05 00\n",
+        begin("goes on at tick 7 after 9 frames"),
+        begin("goes on at tick 1057 after 14 frames")
+    );
+    assert!(bill(&later).status.success());
+    for words in [
+        "goes on at tick 1050 after 4 frames",
+        "goes on at tick 50 after 5 frames",
+        "a fresh part; ..",
+    ] {
+        let ended = bill(&format!("{}{DAY}{}05 00\n", begin("a fresh part; .."), begin(words)));
+        let complaint = String::from_utf8(ended.stderr).expect("text");
+        assert!(
+            ended.stdout.is_empty() && complaint.contains("standard input, line 7: a "),
+            "{complaint}"
+        );
+    }
 }
 
 #[test]
@@ -205,17 +257,17 @@ fn a_damaged_state_is_named_and_not_touched() {
     newer[8] = 2;
     let grown = [&whole[..], &vec![0; 65_536]].concat();
     for (bytes, wrong) in [
-        (Vec::new(), "no state of oxterin"),
-        (vec![0xFF; 65_536], "no state of oxterin"),
+        (Vec::new(), "not a state of oxterin"),
+        (vec![0xFF; 65_536], "not a state of oxterin"),
         (whole[..10].to_vec(), "a damaged state"),
-        (whole[..72_031].to_vec(), "it says 72,032 bytes, and has 72,031"),
-        (grown, "it says 72,032 bytes, and has 137,568"),
+        (whole[..72_039].to_vec(), "it says 72,040 bytes, and has 72,039"),
+        (grown, "it says 72,040 bytes, and has 137,576"),
         (newer, "a state of version 2, and this oxterin reads version 1"),
         (changed(24), "its lengths are not those of a state"),
         (changed(80), "its checksum is"),
         (changed(5_000), "its checksum is"),
         (changed(72_000), "its checksum is"),
-        (changed(72_031), "its checksum is"),
+        (changed(72_039), "its checksum is"),
     ] {
         fs::write(&state, &bytes).expect("written");
         for words in going_on(&state) {

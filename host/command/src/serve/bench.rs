@@ -2,7 +2,7 @@
 use super::clock::Clock;
 use super::counts::Counts;
 use super::log::{Log, Refused, Told};
-use crate::desk::Desk;
+use crate::desk::{Desk, Sent};
 use oxterin::{Refusal, Signals};
 use std::sync::{Condvar, Mutex, MutexGuard, PoisonError};
 use std::time::{Duration, Instant};
@@ -13,6 +13,8 @@ pub struct Bench {
     ticks_per_byte: u64,
     /// The machine's clock and the tick at which it started, if that is the part's time.
     clock: Option<(Clock, u128)>,
+    /// Whether somebody watches the counters.
+    pub watched: bool,
     shared: Mutex<Shared>,
     /// Told when something has changed after a quiet time, and when there is a reason to save at once.
     news: Condvar,
@@ -45,6 +47,7 @@ impl Bench {
             wp_high,
             ticks_per_byte,
             clock: speed.map(|speed| (Clock::start(speed), now)),
+            watched: false,
             shared: Mutex::new(Shared {
                 desk,
                 lines: None,
@@ -58,6 +61,14 @@ impl Bench {
         }
     }
 
+    /// The same bench with these logs.
+    pub fn with_logs(mut self, lines: Option<Log>, json: Option<Log>) -> Bench {
+        let shared = self.shared.get_mut().unwrap_or_else(PoisonError::into_inner);
+        shared.lines = lines;
+        shared.json = json;
+        self
+    }
+
     /// All that is shared, for one thread. A thread that failed while it had it left it whole: a frame is one call.
     pub fn lock(&self) -> MutexGuard<'_, Shared> {
         self.shared.lock().unwrap_or_else(PoisonError::into_inner)
@@ -66,31 +77,41 @@ impl Bench {
     /// Sends a frame for an account, of which so many bytes were sent and the others are to be read. Answers what each position read.
     pub fn frame(&self, account: u8, input: &[u8], sent: usize) -> Result<Vec<u8>, Refusal> {
         let mut shared = self.lock();
+        let sent = self.exchange(&mut shared, account, input).inspect_err(|refusal| {
+            self.refused(&mut shared, account, sent, input.len() - sent, *refusal);
+        })?;
+        Ok(sent.exchange.output)
+    }
+
+    /// Sends a frame, and writes it down if the part accepts it.
+    fn exchange(&self, shared: &mut Shared, account: u8, input: &[u8]) -> Result<Sent, Refusal> {
         let signals = Signals {
             wp_high: self.wp_high,
             elapsed: self.waiting(&shared.desk),
             ticks_per_byte: self.ticks_per_byte,
             ..Signals::whole(input)
         };
-        match shared.desk.exchange(account, input, signals) {
-            Ok(sent) => {
-                let told = Told {
-                    tick: shared.desk.tick,
-                    account,
-                    input,
-                    signals,
-                    status: shared.desk.part.status(self.wp_high)[0],
-                    sent: &sent,
-                };
-                shared.tell(|log| log.tell(|line| told.line(line)), |log| log.tell(|line| told.json(line)));
-                shared.counts.frame(sent.billed.map_or(0, |billed| billed.ticks));
-                self.happened(&mut shared);
-                Ok(sent.exchange.output)
-            }
-            Err(refusal) => {
-                self.refused(&mut shared, account, sent, input.len() - sent, refusal);
-                Err(refusal)
-            }
+        let sent = shared.desk.exchange(account, input, signals)?;
+        let told = Told {
+            tick: shared.desk.tick,
+            account,
+            input,
+            signals,
+            status: shared.desk.part.status(self.wp_high)[0],
+            sent: &sent,
+        };
+        shared.tell(|log| log.tell(|line| told.line(line)), |log| log.tell(|line| told.json(line)));
+        shared.counts.frame(sent.billed.map_or(0, |billed| billed.ticks));
+        self.happened(shared);
+        Ok(sent)
+    }
+
+    /// Lets the ticks since the last frame pass at once, if they come off an operation; that is written down as a frame of no bits. If the
+    /// ledger is full, they go on waiting.
+    pub fn settle(&self, shared: &mut Shared) {
+        if self.snapshot(shared).owes() {
+            let account = shared.desk.settling().account();
+            let _ = self.exchange(shared, account, &[]);
         }
     }
 
@@ -99,6 +120,7 @@ impl Bench {
         self.refused(&mut self.lock(), account, sent, read, refusal);
     }
 
+    /// Writes down a frame that was refused.
     fn refused(&self, shared: &mut Shared, account: u8, sent: usize, read: usize, refusal: Refusal) {
         let refused = Refused {
             tick: shared.desk.tick,
@@ -142,11 +164,13 @@ impl Bench {
         }
     }
 
-    /// Counts a client or a stranger.
+    /// Counts a client or a stranger. If nobody watches the counters, nothing has happened.
     pub fn count(&self, how: impl FnOnce(&mut Counts)) {
         let mut shared = self.lock();
         how(&mut shared.counts);
-        self.happened(&mut shared);
+        if self.watched {
+            self.happened(&mut shared);
+        }
     }
 
     /// One more thing has happened.
@@ -159,11 +183,12 @@ impl Bench {
 
     /// A client has left, so what has changed is saved now.
     pub fn left(&self) {
+        self.count(Counts::leave);
         let mut shared = self.lock();
-        shared.counts.leave();
-        shared.events += 1;
-        shared.at_once = true;
-        self.news.notify_all();
+        if shared.events != shared.seen {
+            shared.at_once = true;
+            self.news.notify_all();
+        }
     }
 
     /// Waits until something has happened and then nothing for a while, or until that has taken too long, or until it is time again in any
@@ -208,5 +233,10 @@ impl Shared {
     /// Writes what the logs have in their blocks.
     pub fn flush(&mut self) {
         self.tell(Log::flush, Log::flush);
+    }
+
+    /// The logs there are.
+    pub fn logs(&self) -> impl Iterator<Item = &Log> {
+        self.lines.iter().chain(&self.json)
     }
 }

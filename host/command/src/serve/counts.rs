@@ -85,7 +85,7 @@ impl Counts {
                 ("tick", thousands(desk.tick)),
                 ("clients served now", thousands(self.present)),
                 ("clients served", thousands(self.clients)),
-                ("silent ones let go", thousands(self.let_go)),
+                ("silent ones dropped", thousands(self.let_go)),
                 ("strangers hung up on", thousands(self.strangers)),
             ]
             .map(|(what, number)| (what.to_string(), number)),
@@ -156,7 +156,7 @@ busy ticks left       0
 tick                  0
 clients served now    1
 clients served        2
-silent ones let go    0
+silent ones dropped   0
 strangers hung up on  1
 ";
         assert_eq!(counts.page(&Desk::new(Part::blank(Size::Small))), wanted);

@@ -1,11 +1,13 @@
 //! Saves what a server has to save: when it has changed and the clients are quiet, and on the way out.
 use super::bench::{Bench, Shared};
+use super::log::Log;
 use crate::complaint::{complain, Complaint};
 use crate::desk::Desk;
 use crate::whole::Held;
 use crate::{image, state};
+use std::fs::File;
 use std::mem;
-use std::sync::{Mutex, PoisonError};
+use std::sync::{Arc, Mutex, PoisonError};
 use std::time::{Duration, Instant};
 
 /// So long nothing has to happen for a moment to be quiet.
@@ -53,14 +55,6 @@ impl Kept {
         Ok(())
     }
 
-    /// Saves the bytes, unless they are in the file in truth.
-    fn save_at_last(&mut self, bytes: &[u8]) -> Result<(), Complaint> {
-        match self.held.holds(bytes) {
-            true => Ok(()),
-            false => self.held.save(bytes),
-        }
-    }
-
     /// Saves the bytes. If that fails it is said once, and answered.
     fn try_save(&mut self, bytes: Vec<u8>) -> bool {
         match self.save(bytes) {
@@ -86,14 +80,14 @@ impl Keeper {
             array: array.map(|held| kept(held, None)),
             state: state.map(|held| kept(held, Some(state::encode(desk)))),
             status: status.map(|held| kept(held, None)),
-            mark: None,
+            mark: Some(mark(&shared)),
             saved: Instant::now(),
             told: Instant::now(),
         };
         if let Some(kept) = &mut keeper.array {
             let bytes = image::written(kept.held.path(), desk.part.array());
             match kept.held.exists() {
-                true => kept.holds = kept.held.holds(&bytes).then_some(bytes),
+                true => kept.holds = Some(bytes), // it is replaced when the array has changed, and not before
                 false => kept.save(bytes)?,
             }
         }
@@ -122,9 +116,13 @@ impl Keeper {
         let changed = self.mark != Some(mark) && (self.array.is_some() || self.state.is_some());
         let now = changed && (quiet || self.saved.elapsed() >= SELDOM);
         let desk = now.then(|| bench.snapshot(&shared));
+        let logs: Vec<Arc<File>> = shared.logs().map(Log::file).collect();
         drop(shared);
         let files = match desk {
-            Some(desk) => self.save(&desk, mark),
+            Some(desk) => {
+                sync(&logs);
+                self.save(&desk, mark)
+            }
             None => changed.then_some(QUIET),
         };
         let counters = page.and_then(|page| self.tell(page));
@@ -155,19 +153,30 @@ impl Keeper {
     pub fn finish(keeper: &Mutex<Keeper>, bench: &Bench) -> Result<u64, Complaint> {
         let mut keeper = keeper.lock().unwrap_or_else(PoisonError::into_inner);
         let mut shared = bench.lock();
+        bench.settle(&mut shared);
         shared.flush();
+        sync(&shared.logs().map(Log::file).collect::<Vec<_>>());
         let desk = bench.snapshot(&shared);
         let (page, frames) = (shared.counts.page(&desk), shared.counts.frames());
         let Keeper { array, state, status, .. } = &mut *keeper;
         let saved = [
             array
                 .as_mut()
-                .map(|kept| kept.save_at_last(&image::written(kept.held.path(), desk.part.array()))),
-            state.as_mut().map(|kept| kept.save_at_last(&state::encode(&desk))),
-            status.as_mut().map(|kept| kept.save_at_last(page.as_bytes())),
+                .map(|kept| kept.save(image::written(kept.held.path(), desk.part.array()))),
+            state.as_mut().map(|kept| kept.save(state::encode(&desk))),
+            status.as_mut().map(|kept| kept.save(page.into_bytes())),
         ];
+        let logged = shared.logs().try_for_each(Log::is_whole);
         mem::forget((shared, keeper)); // the clients' threads wait from now on until the process has ended
-        saved.into_iter().flatten().collect::<Result<(), Complaint>>().map(|()| frames)
+        saved.into_iter().flatten().collect::<Result<(), Complaint>>()?;
+        logged.map(|()| frames)
+    }
+}
+
+/// Makes sure that logs are on the disk before the state that goes with them. What cannot be synced was said when it was written.
+fn sync(logs: &[Arc<File>]) {
+    for log in logs {
+        let _ = log.sync_data();
     }
 }
 

@@ -2,42 +2,51 @@
 use crate::complaint::{complain, complaint, Complaint};
 use crate::desk::{Billed, Sent};
 use oxterin::{Refusal, Signals};
-use std::fs::{File, OpenOptions};
-use std::io::{self, BufRead, BufReader, ErrorKind, Read, Seek, SeekFrom, Write};
+use std::fs::{self, File, OpenOptions, TryLockError};
+use std::io::{self, BufReader, ErrorKind, Read, Seek, SeekFrom, Write};
+use std::sync::Arc;
 
-/// A file that grows by lines, written in blocks.
+/// A file that grows by lines, written in blocks. No other oxterin writes it meanwhile.
 pub struct Log {
-    /// The option by which it was asked for.
-    option: &'static str,
-    path: String,
-    /// None once it could not be written.
-    file: Option<File>,
+    /// The option by which it was asked for, and its path.
+    name: String,
+    file: Arc<File>,
+    /// How many bytes of whole lines it has.
+    length: u64,
     block: Vec<u8>,
+    /// Whether it could not be written, so that it has ended.
+    ended: bool,
 }
 
 /// A block is written when it has so many bytes.
 const BLOCK: usize = 1 << 16;
 
 impl Log {
-    /// Goes on with the file at a path, or begins one. What is there stays.
-    pub fn open(option: &'static str, path: &str) -> Result<Log, Complaint> {
-        let file = OpenOptions::new().append(true).create(true).open(path);
-        Ok(Log {
-            option,
-            path: path.to_string(),
-            file: Some(file.map_err(|error| complaint(format!("{option} {path}: {error}; name a file that can be written")))?),
-            block: Vec::new(),
-        })
-    }
-
-    /// The file's path.
-    pub fn path(&self) -> &str {
-        &self.path
+    /// Goes on with the file at a path, or begins one; first come these lines. What is there stays.
+    pub fn open(option: &str, path: &str, first: &str) -> Result<Log, Complaint> {
+        let name = format!("{option} {path}");
+        let wrong = |error: io::Error| complaint(format!("{name}: {error}; name a file that can be written"));
+        let file = OpenOptions::new().append(true).create(true).open(path).map_err(wrong)?;
+        if let Err(TryLockError::WouldBlock) = file.try_lock() {
+            return Err(complaint(format!(
+                "{name}: another oxterin is writing this file; end that one first, or name another file"
+            )));
+        }
+        let length = file.metadata().map_err(wrong)?.len();
+        let mut log = Log {
+            name: name.clone(),
+            file: Arc::new(file),
+            length,
+            block: first.as_bytes().to_vec(),
+            ended: false,
+        };
+        log.write().map_err(wrong)?;
+        Ok(log)
     }
 
     /// Adds a line.
     pub fn tell(&mut self, line: impl FnOnce(&mut Vec<u8>)) {
-        if self.file.is_some() {
+        if !self.ended {
             line(&mut self.block);
             self.block.push(b'\n');
             if self.block.len() >= BLOCK {
@@ -46,42 +55,55 @@ impl Log {
         }
     }
 
-    /// Writes what is not written yet. If that fails the log ends, and the part is served on.
+    /// Writes what is not written yet. If that fails the log ends with its last whole line, and the part is served on.
     pub fn flush(&mut self) {
-        if let Some(file) = &mut self.file {
-            if let Err(error) = file.write_all(&self.block) {
-                complain(format!(
-                    "{} {}: {error}; the log ends here, the part is served on",
-                    self.option, self.path
-                ));
-                self.file = None;
-            }
-            self.block.clear();
+        if let Err(error) = self.write() {
+            self.ended = true;
+            complain(format!("{}: {error}; the log ends here, the part is served on", self.name));
+        }
+    }
+
+    /// Writes the block. A part of it is taken back.
+    fn write(&mut self) -> io::Result<()> {
+        let written = (&*self.file).write_all(&self.block);
+        match written {
+            Ok(()) => self.length += self.block.len() as u64,
+            Err(_) => self.file.set_len(self.length).unwrap_or(()), // then a line is cut off, which the next server says
+        }
+        self.block.clear();
+        written
+    }
+
+    /// The file, so that it can be synced by whoever does not hold the log.
+    pub fn file(&self) -> Arc<File> {
+        Arc::clone(&self.file)
+    }
+
+    /// It is an error if the log has ended early.
+    pub fn is_whole(&self) -> Result<(), Complaint> {
+        match self.ended {
+            true => Err(complaint(format!("{}: the log ended before the server did", self.name))),
+            false => Ok(()),
         }
     }
 }
 
-/// Whether a log could go on with the file at a path, if there is one. `fresh` says that the part is: then the file has to be without frames,
-/// which were sent to another part.
+/// Whether a log could go on with the file at a path, if there is one. `fresh` says that the part is: then the file has to be without frames.
 pub fn check(option: &str, path: &str, fresh: bool) -> Result<(), Complaint> {
     let wrong = |words: &str| complaint(format!("{option} {path}: {words}"));
-    let file = match File::open(path) {
+    match fs::metadata(path) {
         Err(error) if error.kind() == ErrorKind::NotFound => return Ok(()),
-        opened => opened.map_err(|error| wrong(&format!("{error}; name a file that can be read and written")))?,
-    };
-    let there = file.metadata().map_err(|error| wrong(&error.to_string()))?;
-    if !there.is_file() || there.len() == 0 {
-        return Ok(());
+        Ok(there) if !there.is_file() => return Err(wrong("not a plain file, so no log is written there; name a file")),
+        Ok(there) if there.len() == 0 => return Ok(()),
+        _ => {}
     }
-    if !ends_whole(&file).map_err(|error| wrong(&error.to_string()))? {
-        return Err(wrong(
-            "its last line has no end; end or remove that line first, or name another file",
-        ));
+    let unread = |error: io::Error| wrong(&format!("{error}; name a file that can be read and written"));
+    let file = File::open(path).map_err(unread)?;
+    if !ends_whole(&file).map_err(unread)? {
+        return Err(wrong("its last line was cut off; remove that line, or name another file"));
     }
-    match fresh && has_frames(file) {
-        true => Err(wrong(
-            "it has frames that were sent to another part, and this one is fresh; name another file, or go on from a state with --state",
-        )),
+    match fresh && has_frames(file).map_err(unread)? {
+        true => Err(wrong("it has frames already, and this part is fresh; name another file")),
         false => Ok(()),
     }
 }
@@ -96,9 +118,16 @@ fn ends_whole(mut file: &File) -> io::Result<bool> {
 }
 
 /// Whether a line of a file is neither empty nor a comment.
-fn has_frames(file: File) -> bool {
-    let mut lines = BufReader::new(file).split(b'\n').map_while(Result::ok);
-    lines.any(|line| !line.is_empty() && !line.starts_with(b"#"))
+fn has_frames(file: File) -> io::Result<bool> {
+    let mut begins = true;
+    for byte in BufReader::new(file).bytes() {
+        match (begins, byte?) {
+            (_, b'\n') => begins = true,
+            (true, byte) if byte != b'#' => return Ok(true),
+            _ => begins = false,
+        }
+    }
+    Ok(false)
 }
 
 /// A frame that the part accepted, as it is written down.

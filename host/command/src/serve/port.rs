@@ -65,7 +65,7 @@ impl Port {
         loop {
             match self.listener.accept() {
                 Ok((stream, peer)) => {
-                    self.make_room();
+                    self.make_room(&service.bench);
                     self.let_in(service, stream, peer);
                 }
                 Err(error) if error.kind() == ErrorKind::ConnectionAborted => {}
@@ -78,9 +78,12 @@ impl Port {
     }
 
     /// Waits until there is room for one more.
-    fn make_room(&self) {
+    fn make_room(&self, bench: &Bench) {
         while self.present.load(Ordering::Relaxed) >= MOST_PRESENT {
             if let Some(first) = self.mute().pop_front() {
+                bench.count(Counts::let_go);
+                let peer = first.peer_addr().map_or_else(|_| "somebody".to_string(), |peer| peer.to_string());
+                complain(format!("{peer}: not a word, and others are waiting; hung up on it"));
                 let _ = first.shutdown(Shutdown::Both); // its thread hears of it and ends
             }
             thread::sleep(Duration::from_millis(1));
@@ -94,17 +97,15 @@ impl Port {
 
     /// Gives a connection a thread of its own.
     fn let_in(self: &Arc<Port>, service: &Arc<Service>, stream: TcpStream, peer: SocketAddr) {
-        let (port, service) = (Arc::clone(self), Arc::clone(service));
-        port.present.fetch_add(1, Ordering::Relaxed);
-        let guest = move || {
-            let served = port.attend(&service, &Arc::new(stream), peer);
-            port.present.fetch_sub(1, Ordering::Relaxed);
+        let (guest, service) = (Guest::of(self), Arc::clone(service));
+        let talk = move || {
+            let served = guest.0.attend(&service, &Arc::new(stream), peer);
+            drop(guest);
             if served {
                 (service.left)();
             }
         };
-        if let Err(error) = thread::Builder::new().spawn(guest) {
-            self.present.fetch_sub(1, Ordering::Relaxed);
+        if let Err(error) = thread::Builder::new().spawn(talk) {
             complain(format!("{peer}: {error}; hung up on it"));
         }
     }
@@ -158,6 +159,23 @@ impl Port {
             Err(error) if error.kind() == ErrorKind::ConnectionReset => Err(End::Left),
             Err(error) => Err(End::of(&error, &format!("not a word for {} seconds", patience.as_secs_f64()))),
         }
+    }
+}
+
+/// A connection that is counted as long as it is there.
+struct Guest(Arc<Port>);
+
+impl Guest {
+    /// One more at a port.
+    fn of(port: &Arc<Port>) -> Guest {
+        port.present.fetch_add(1, Ordering::Relaxed);
+        Guest(Arc::clone(port))
+    }
+}
+
+impl Drop for Guest {
+    fn drop(&mut self) {
+        self.0.present.fetch_sub(1, Ordering::Relaxed);
     }
 }
 
@@ -253,7 +271,7 @@ struct Wire<'a> {
     until: Option<Instant>,
 }
 
-/// What stands in the head of every message of STUN and TURN, which browsers send for WebRTC and which can begin with a command.
+/// What is in the head of every message of STUN and TURN, which browsers send for WebRTC and which can begin with a command.
 const COOKIE: [u8; 4] = [0x21, 0x12, 0xA4, 0x42];
 /// How many bytes come before it: four, or six if two bytes for the message's length come first.
 const BEFORE: [usize; 2] = [4, 6];
@@ -261,6 +279,7 @@ const BEFORE: [usize; 2] = [4, 6];
 const TELLING: usize = 10;
 
 impl<'a> Wire<'a> {
+    /// A connection that is looked after, if nothing comes or goes.
     fn new(stream: &'a TcpStream, idle: Option<Duration>) -> io::Result<Wire<'a>> {
         let look = idle.map_or(LOOK, |idle| idle.min(LOOK));
         stream.set_nodelay(true)?;

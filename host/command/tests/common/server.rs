@@ -25,16 +25,20 @@ impl Server {
     pub fn start(options: &[&str]) -> Server {
         let named = options.iter().filter(|option| option.starts_with("--listen")).count();
         let port: &[&str] = if named == 0 { &["--port", "0"] } else { &[] };
-        let mut process = command(port)
-            .args(options)
+        Server::of(command(port).args(options), named.max(1))
+    }
+
+    /// Runs a command that is to listen at so many ports, and waits until it is ready.
+    pub fn of(command: &mut Command, ports: usize) -> Server {
+        let mut process = command
             .stdout(Stdio::piped())
             .stderr(Stdio::piped())
             .spawn()
             .expect("the command starts");
         let said = collected(process.stderr.take().expect("standard error is a pipe"));
         let output = BufReader::new(process.stdout.take().expect("standard output is a pipe"));
-        let lines: Vec<String> = output.lines().take(named.max(1)).map(|line| line.expect("a line")).collect();
-        assert_eq!(lines.len(), named.max(1), "the server is not ready: {}", said.lock().expect("text"));
+        let lines: Vec<String> = output.lines().take(ports).map(|line| line.expect("a line")).collect();
+        assert_eq!(lines.len(), ports, "the server is not ready: {}", said.lock().expect("text"));
         Server {
             process,
             ports: lines.iter().map(|line| port_of(line)).collect(),
