@@ -25,7 +25,7 @@ const IDLE: u8 = 0x10;
 /// Status byte 1 while an operation runs.
 const BUSY: u8 = 0x11;
 /// In no more time a good client is answered.
-const AT_ONCE: Duration = Duration::from_secs(1);
+const AT_ONCE: Duration = Duration::from_secs(5);
 /// The longest that a test waits for anything.
 const PATIENCE: Duration = Duration::from_secs(10);
 /// Where the random numbers begin.
@@ -274,13 +274,13 @@ fn status(port: u16) -> u8 {
 }
 
 /// How many bytes belong to a command, of which these follow; none if it is no command of the protocol.
-fn parameters(command: u8, behind: &[u8]) -> Option<usize> {
+fn parameters(command: u8, rest: &[u8]) -> Option<usize> {
     match command {
         0x12 | 0x15 => Some(1),
         0x09 => Some(3),
         0x0C | 0x0E | 0x14 => Some(4),
         0x0A => Some(6),
-        0x0D | 0x13 => Some(6 + length(behind)?),
+        0x0D | 0x13 => Some(6 + length(rest)?),
         0x00..=0x15 => Some(0),
         _ => None,
     }
@@ -295,8 +295,8 @@ fn length(bytes: &[u8]) -> Option<usize> {
 /// The frames that the protocol finds in a stream of requests, up to its end or to a byte that is no command.
 fn frames_in(mut stream: &[u8]) -> Vec<Vec<u8>> {
     let mut frames = Vec::new();
-    while let Some((&command, behind)) = stream.split_first() {
-        let Some((own, rest)) = parameters(command, behind).and_then(|count| behind.split_at_checked(count)) else {
+    while let Some((&command, after)) = stream.split_first() {
+        let Some((own, rest)) = parameters(command, after).and_then(|count| after.split_at_checked(count)) else {
             break;
         };
         let read = own
@@ -309,7 +309,7 @@ fn frames_in(mut stream: &[u8]) -> Vec<Vec<u8>> {
     frames
 }
 
-/// 239 of the 256 bytes are no command that is served. Whether the wreck comes with such a first byte or behind the server's back, it is
+/// 239 of the 256 bytes are no command that is served. Whether the wreck comes with such a first byte or after the server has hung up, it is
 /// not carried out, and the server says who it was.
 #[test]
 fn who_begins_with_no_command_is_hung_up_on_at_once_and_changes_nothing() {
@@ -335,7 +335,7 @@ fn who_begins_with_no_command_is_hung_up_on_at_once_and_changes_nothing() {
     }
 }
 
-/// The other 17 are requests, and the stream goes on behind them and their parameters. Where these take the beginning of the wreck with
+/// The other 17 are requests, and the stream goes on after them and their parameters. Where these take the beginning of the wreck with
 /// them, only its chip erase is carried out, which then is not enabled.
 #[test]
 fn who_begins_with_a_command_is_answered_as_the_protocol_says() {
@@ -371,7 +371,7 @@ fn who_begins_with_a_command_is_answered_as_the_protocol_says() {
     }
 }
 
-/// The wreck behind so many requests that do nothing: wherever the server begins to take bytes for requests, it comes to the wreck.
+/// The wreck after so many requests that do nothing: wherever the server begins to take bytes for requests, it comes to the wreck.
 fn slide(zeros: usize) -> Vec<u8> {
     [&vec![0; zeros][..], &WRECK].concat()
 }
@@ -411,7 +411,7 @@ fn browser() -> Vec<(&'static str, Vec<u8>)> {
     ]
 }
 
-/// A STUN message: a binding request (1) or a TURN allocation (3), and in its only attribute the wreck behind as many zeros as there is
+/// A STUN message: a binding request (1) or a TURN allocation (3), and in its only attribute the wreck after as many zeros as there is
 /// room.
 fn stun(kind: u8, transaction: &[u8], length: u16) -> Vec<u8> {
     let attribute = slide(usize::from(length) - 4 - WRECK.len());
@@ -436,15 +436,13 @@ fn what_a_browser_sends_is_not_answered_and_changes_nothing() {
     bench.is_as_it_was(server);
 }
 
-/// What browsers were once seen to send to a port of this kind, if somebody recorded it.
+/// What browsers were once seen to send to a port of this kind.
 #[test]
 fn what_browsers_were_seen_to_send_changes_nothing() {
     let recorded = Path::new(env!("CARGO_MANIFEST_DIR")).join("tests/browser");
-    let Ok(entries) = fs::read_dir(&recorded) else {
-        println!("nothing was recorded, so nothing is tried");
-        return;
-    };
-    let paths = entries.map(|entry| entry.expect("an entry").path());
+    let paths = fs::read_dir(&recorded)
+        .expect("the recordings")
+        .map(|entry| entry.expect("an entry").path());
     let recordings: Vec<PathBuf> = paths.filter(|path| path.extension().is_some_and(|end| end == "bin")).collect();
     assert!(!recordings.is_empty(), "the folder of the recordings has none");
     let bench = Bench::new("recorded");
@@ -517,7 +515,7 @@ fn strangers_do_not_get_into_the_frame_of_a_good_client() {
     bench.is_as_it_was(server);
 }
 
-/// Requests whose lengths are the longest there are, cut off at every point of their head and at many behind it, then whole; a queue of
+/// Requests whose lengths are the longest there are, cut off at every point of their head and at many after it, then whole; a queue of
 /// clients that send as much as they can; and one that asks for almost 100 MB of answers and reads none. The server keeps none of it.
 #[test]
 fn lengths_without_bounds_cost_the_server_no_memory() {
@@ -601,7 +599,7 @@ fn some_request(random: &mut Random) -> Vec<u8> {
 }
 
 /// Streams of random bytes, each beginning with a command: bytes of any kind, among which soon is one that is no command; bytes that often
-/// spell commands and short lengths; and requests, of which the last is cut off, or behind which is what a server must not come to.
+/// spell commands and short lengths; and requests, of which the last is cut off, or followed by what a server must not come to.
 fn streams(random: &mut Random) -> Vec<Vec<u8>> {
     let often = [
         0, 0, 0, 0, 0, 0, 0, 1, 1, 2, 3, 4, 5, 6, 6, 0x0A, 0x0B, 0x0E, 0x0F, 0x10, 0x13, 0x13, 0x13, 0x14,
@@ -723,8 +721,11 @@ fn gives_up_the_seat(name: &str, options: &[&str], first: &[u8], slowly: &[u8]) 
     let server = Server::start(&folder, &options);
     let begun = Instant::now();
     let holder = connect(server.port());
+    put(&holder, &[0x00]);
+    let mut answer = [0];
+    (&holder).read_exact(&mut answer).expect("the holder has the seat");
+    assert_eq!(answer, [ACK]);
     put(&holder, first);
-    thread::sleep(Duration::from_millis(100));
     let port = server.port();
     let next = thread::spawn(move || {
         assert_eq!(frame(&connect(port), &[0x9F], 2), [0x1F, 0x42]);
@@ -736,7 +737,7 @@ fn gives_up_the_seat(name: &str, options: &[&str], first: &[u8], slowly: &[u8]) 
     }
     let waited = next.join().expect("the next client is served");
     assert!(waited >= Duration::from_millis(500), "the next client was served after {waited:?}");
-    assert!(waited < Duration::from_secs(3), "the next client was served after {waited:?}");
+    assert!(waited < Duration::from_secs(8), "the next client was served after {waited:?}");
     ending(&holder);
     let peer = holder.local_addr().expect("an address").to_string();
     let said = || fs::read_to_string(folder.join("errors")).expect("text");
@@ -780,9 +781,9 @@ fn a_client_that_delays_gives_up_the_seat() {
 /// A frame in time keeps the seat, even if the client says nothing in between.
 #[test]
 fn a_client_that_sends_frames_in_time_keeps_the_seat() {
-    let server = Server::start(&folder("attack", "in-time"), &["--port", "0", "--idle", "0.5"]);
+    let server = Server::start(&folder("attack", "in-time"), &["--port", "0", "--idle", "2"]);
     let client = connect(server.port());
-    for _ in 0..6 {
+    for _ in 0..12 {
         assert_eq!(frame(&client, &[0x9F], 2), [0x1F, 0x42]);
         thread::sleep(Duration::from_millis(200));
     }
