@@ -69,10 +69,10 @@ if that was said. Then, for a part of 131,072 bytes with flashrom 1.4 or later, 
 
 Clients of one port are served one after the other, and those of different ports at the same time. One SPI operation
 (13h) is one chip-select frame: the bytes sent, then a zero for each byte to be read. It reaches the part when the
-request is whole, so a client that stops in the middle of one keeps nobody waiting. A frame has at most 8,192 bytes; a
-longer one is answered with NAK. A connection whose first byte is no command that is served, such as a browser's, is
-hung up on, and so is one that speaks STUN, or that later sends a byte above 15h in place of a command. There is no
-password: whoever may open a connection on this machine may send frames.
+request is whole, so a client that stops in the middle of one keeps no other port waiting. A frame has at most 8,192
+bytes; a longer one is answered with NAK. A connection whose first byte is no command that is served, such as a
+browser's, is hung up on, and so is one that speaks STUN, or that later sends a byte above 15h in place of a command.
+There is no password: whoever may open a connection on this machine may send frames.
 
 Busy ticks are billed to the account whose frame began the operation, whoever polls afterwards. oxterin bill --state
 FILE shows the bill at any time; oxterin bill LOG shows it from a log.
@@ -87,7 +87,8 @@ one long status read, sees busy fall. The clock that a client sets (14h) is not 
 
 OUT and the state are saved whole, beside the old one, which is then replaced: when they have changed and no frame has
 come for a quarter of a second, when a client leaves, every five seconds under load, and on the way out. SIGTERM, SIGINT
-and SIGHUP end the server after that. OUT is made at once if it is missing. No other oxterin can save them meanwhile.
+and SIGHUP end the server after that. OUT is made at once if it is missing; an older one stays until the array has
+changed. No other oxterin can save them meanwhile.
 
 A line of the log is one that oxterin run takes: the bytes, +TICKS elapsed before it, @TICKS of each byte, wp=low,
 account=N, and as a comment status byte 1 afterwards and the outcome. A refused frame is a comment. Each server begins
