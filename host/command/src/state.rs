@@ -13,7 +13,8 @@ use std::fs::{self, File};
 use std::io::{self, Read};
 
 /// What `--state` means, for every subcommand that has it.
-pub const STATE_HELP: &str = "  --state FILE        goes on from FILE, which oxterin state has made, and saves it afterwards: array, security
+pub const STATE_HELP: &str =
+    "  --state FILE        goes on from FILE, which oxterin state has made, and saves it afterwards: array, security
                       register, record, durations, ledger and time. It goes with none of --size, --image, --set,
                       --bpl, --bp0 and --otp-used
 ";
