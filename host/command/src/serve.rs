@@ -188,8 +188,12 @@ fn read(words: &[String]) -> Result<Given, Complaint> {
 fn idle(given: &Given) -> Result<Option<Duration>, Complaint> {
     let seconds = match given.value("--idle") {
         Some(text) => decimal(text)
-            .filter(|seconds| *seconds <= 1e9)
-            .ok_or_else(|| complaint(format!("--idle {text}: a number of seconds, such as 60 or 0.5, and 0 for ever")))?,
+            .filter(|seconds| *seconds == 0.0 || (0.01..=1e9).contains(seconds))
+            .ok_or_else(|| {
+                complaint(format!(
+                    "--idle {text}: a number of seconds from 0.01, such as 60 or 0.5, or 0 for ever"
+                ))
+            })?,
         None => IDLE,
     };
     Ok((seconds > 0.0).then(|| Duration::from_secs_f64(seconds)))
