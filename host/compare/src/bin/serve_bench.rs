@@ -368,7 +368,7 @@ Connections: connect, NOP, leave, one after the other.
     Ok(())
 }
 
-/// The cells of a row behind its name.
+/// The cells of a row after its name.
 fn cells(rates: &[Option<Rates>]) -> String {
     let told = |[median, least, most]: [String; 3]| format!(" {median} | {least} to {most} |");
     let told = |rates: &Option<Rates>| rates.map_or(" - | - |".to_string(), |rates| told(rates.map(short)));
