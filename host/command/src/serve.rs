@@ -45,7 +45,7 @@ Where clients come from, and who pays:
   --account N         whose frames they are, 0 (default) to 255
   --listen N=ACCOUNT  in place of the two: a port and whose frames come from it; once for each port
   --idle SECONDS      a client that sends no frame for so long is hung up on; 60 is the default, 0 never
-  --once              stop when the first client has left
+  --once              stop when the first client that sent a frame has left
 
 The part:
 {PART_HELP}{STATE_HELP}  --wp low|high       the level of WP; high is the default
@@ -67,9 +67,10 @@ if that was said. Then, for a part of 131,072 bytes with flashrom 1.4 or later, 
   flashrom -p serprog:ip=127.0.0.1:PORT -c AT25DF011 ...
   flashrom -p serprog:ip=127.0.0.1:PORT -c AT25F512A ...
 
-Clients of one port are served one after the other, and those of different ports at the same time. One SPI operation
-(13h) is one chip-select frame: the bytes sent, then a zero for each byte to be read. It reaches the part when the
-request is whole, so a client that stops in the middle of one keeps no other port waiting. A frame has at most 8,192
+One SPI operation (13h) is one chip-select frame: the bytes sent, then a zero for each byte to be read. It reaches the
+part when the request is whole, so a client that stops in the middle of one keeps no other port waiting. At one port
+the part is one client's at a time, from its first frame or delay until it leaves; the first frame of the next one
+waits. Clients of different ports are served at the same time, frame by frame. A frame has at most 8,192
 bytes; a longer one is answered with NAK. A connection whose first byte is no command that is served, such as a
 browser's, is hung up on, and so is one that speaks STUN, or that later sends a byte above 15h in place of a command.
 There is no password: whoever may open a connection on this machine may send frames.

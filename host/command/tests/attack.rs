@@ -721,10 +721,7 @@ fn gives_up_the_seat(name: &str, options: &[&str], first: &[u8], slowly: &[u8]) 
     let server = Server::start(&folder, &options);
     let begun = Instant::now();
     let holder = connect(server.port());
-    put(&holder, &[0x00]);
-    let mut answer = [0];
-    (&holder).read_exact(&mut answer).expect("the holder has the seat");
-    assert_eq!(answer, [ACK]);
+    assert_eq!(frame(&holder, &[0x9F], 2), [0x1F, 0x42]); // so it has the seat
     put(&holder, first);
     let port = server.port();
     let next = thread::spawn(move || {
@@ -812,9 +809,12 @@ fn clients_that_stay_do_not_keep_the_server_from_ending() {
 
 /// 20 connections say nothing at all. They have no seat, so nobody waits for them.
 #[test]
-fn connections_that_say_nothing_keep_nobody_waiting() {
+fn connections_that_send_no_frame_keep_nobody_waiting() {
     let server = Server::start(&folder("attack", "mute"), &["--port", "0"]);
     let mute: Vec<TcpStream> = (0..20).map(|_| connect(server.port())).collect();
+    for nearly in &mute[10..] {
+        put(nearly, &[0x00, 0x13, 0x01]);
+    }
     for _ in 0..5 {
         assert_eq!(status(server.port()), IDLE);
     }

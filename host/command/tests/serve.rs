@@ -266,8 +266,9 @@ fn a_client_that_does_not_read_its_answers_is_let_go() {
 fn a_second_client_waits_for_the_first() {
     let server = Server::start(&[]);
     let mut first = server.client();
-    first.ask(&[0x00], &[ACK]);
+    first.frame(&[0x05], &[0x10]);
     let mut second = server.client();
+    second.ask(&[0x01], &[ACK, 0x01, 0x00]); // only frames and delays wait
     second.send(&[0x13, 0x01, 0x00, 0x00, 0x01, 0x00, 0x00, 0x05]);
     second.stream.set_read_timeout(Some(Duration::from_millis(200))).expect("a timeout");
     let early = second

@@ -1,8 +1,9 @@
 //! A port of a server: who is let in, who is served, and who is hung up on.
 use super::bench::Bench;
 use super::counts::Counts;
-use super::serprog::{begins, Client, Reply, Request};
+use super::serprog::{begins, Client, Host, Reply, Request};
 use crate::complaint::complain;
+use std::cell::OnceCell;
 use std::collections::VecDeque;
 use std::io::{self, BufRead, BufReader, ErrorKind, Read, Write};
 use std::net::{Ipv4Addr, Shutdown, SocketAddr, TcpListener, TcpStream};
@@ -26,7 +27,7 @@ pub struct Port {
     listener: TcpListener,
     /// The account that its clients' frames are sent for.
     account: u8,
-    /// One client at a time is served.
+    /// The part is one client's at a time: it takes the seat with its first frame, or its first delay.
     seat: Mutex<()>,
     /// How many connections there are, of whatever kind.
     present: AtomicUsize,
@@ -113,23 +114,23 @@ impl Port {
     /// Talks with a connection until it ends, and says what was out of order. Answers whether a client was served.
     fn attend(&self, service: &Service, stream: &Arc<TcpStream>, peer: SocketAddr) -> bool {
         let bench = &service.bench;
-        let mut seated = false;
+        let seat = Seat {
+            port: self,
+            bench,
+            stream,
+            taken: OnceCell::new(),
+        };
         let end = Wire::new(stream, service.idle).map_or_else(
             |error| End::Lost(error.to_string()),
             |wire| {
                 let mut requests = BufReader::with_capacity(ROOM, wire);
-                if let Err(end) = self.first_word(&mut requests, stream, service.idle) {
-                    return end;
+                match self.first_word(&mut requests, stream, service.idle) {
+                    Ok(()) => converse(Client::new(bench, self.account, service.idle, &seat), &mut requests, service.idle),
+                    Err(end) => end,
                 }
-                let _seat = self.seat.lock().unwrap_or_else(PoisonError::into_inner);
-                seated = true;
-                bench.count(Counts::come);
-                let end = converse(bench, self.account, &mut requests, service.idle);
-                bench.left();
-                end
             },
         );
-        let served = seated && !matches!(end, End::Stranger(_));
+        let served = seat.leave() && !matches!(end, End::Stranger(_));
         match end {
             End::Left => {}
             End::Stranger(how) => {
@@ -158,6 +159,56 @@ impl Port {
             Ok(None) => Err(End::Left),
             Err(error) if error.kind() == ErrorKind::ConnectionReset => Err(End::Left),
             Err(error) => Err(End::of(&error, &format!("not a word for {} seconds", patience.as_secs_f64()))),
+        }
+    }
+}
+
+/// The seat of a port, for a client that may take it.
+struct Seat<'a> {
+    port: &'a Port,
+    bench: &'a Bench,
+    stream: &'a TcpStream,
+    /// The seat, once the client has it.
+    taken: OnceCell<MutexGuard<'a, ()>>,
+}
+
+impl Seat<'_> {
+    /// Gives the seat up, and answers whether it was taken. What has changed is saved.
+    fn leave(self) -> bool {
+        let taken = self.taken.into_inner();
+        if taken.is_some() {
+            self.bench.left();
+        }
+        taken.is_some()
+    }
+}
+
+impl Host for Seat<'_> {
+    fn seat(&self) {
+        self.taken.get_or_init(|| {
+            let seat = self.port.seat.lock().unwrap_or_else(PoisonError::into_inner);
+            self.bench.count(Counts::come);
+            seat
+        });
+    }
+
+    fn is_seated(&self) -> bool {
+        self.taken.get().is_some()
+    }
+
+    /// A short time is waited for to its end.
+    fn linger(&self, time: Duration) -> bool {
+        if time <= LOOK {
+            thread::sleep(time);
+            return true;
+        }
+        match self.stream.peek(&mut [0]) {
+            Ok(0) => false,
+            Ok(_) => {
+                thread::sleep(LOOK);
+                true
+            }
+            Err(error) => is_patience(&error),
         }
     }
 }
@@ -204,17 +255,11 @@ impl End {
 }
 
 /// Answers requests until there are none. Whoever sends no frame for too long is let go.
-fn converse(bench: &Bench, account: u8, requests: &mut BufReader<Wire<'_>>, idle: Option<Duration>) -> End {
-    let patience = || idle.map(|idle| Instant::now() + idle);
-    let stream = requests.get_ref().stream;
-    let linger = |time| linger(stream, time);
-    let mut client = Client::new(bench, account, &linger);
-    client.until = patience();
+fn converse(mut client: Client<'_>, requests: &mut BufReader<Wire<'_>>, idle: Option<Duration>) -> End {
     let end = loop {
         requests.get_mut().until = client.until;
         match answer(&mut client, requests) {
-            Ok(Some(Request::Frame)) => client.until = patience(),
-            Ok(Some(Request::Other)) => {}
+            Ok(Some(Request::Known)) => {}
             Ok(Some(Request::Unknown(byte))) => break Ok(End::Stranger(format!("it said {byte:02X}h in place of a command"))),
             Ok(None) => break Ok(End::Left),
             Err(error) => break Err(error),
@@ -237,22 +282,6 @@ fn answer(client: &mut Client<'_>, requests: &mut BufReader<Wire<'_>>) -> io::Re
             Ok(Some(request))
         }
         None => wire.flush().map(|()| None),
-    }
-}
-
-/// Waits a while, at the most so long, and answers whether the other side is still there. A short time is waited for to its end.
-fn linger(stream: &TcpStream, time: Duration) -> bool {
-    if time <= LOOK {
-        thread::sleep(time);
-        return true;
-    }
-    match stream.peek(&mut [0]) {
-        Ok(0) => false,
-        Ok(_) => {
-            thread::sleep(LOOK);
-            true
-        }
-        Err(error) => is_patience(&error),
     }
 }
 

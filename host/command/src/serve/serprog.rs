@@ -106,10 +106,24 @@ pub struct Client<'a> {
     bench: &'a Bench,
     account: u8,
     buffered: u64,
+    /// How long it may send no frame; for ever if there is no time.
+    idle: Option<Duration>,
     /// When it is let go unless it has sent a frame by then; never if there is none.
     pub until: Option<Instant>,
+    /// What the client's port does for it.
+    host: &'a dyn Host,
+}
+
+/// What a client needs of its port.
+pub trait Host {
+    /// Waits until the part is the client's: before its first frame, and before time passes by its delays.
+    fn seat(&self);
+
+    /// Whether the part is the client's.
+    fn is_seated(&self) -> bool;
+
     /// Waits a while, at the most so long, and answers whether the client is still there.
-    linger: &'a dyn Fn(Duration) -> bool,
+    fn linger(&self, time: Duration) -> bool;
 }
 
 /// What a request is answered with.
@@ -124,24 +138,29 @@ pub struct Reply {
 /// What a request was.
 #[derive(Clone, Copy, Debug, PartialEq, Eq)]
 pub enum Request {
-    /// A frame, accepted or refused.
-    Frame,
-    /// Another command.
-    Other,
+    /// A command of the protocol.
+    Known,
     /// No command of the protocol, this byte: the conversation is over.
     Unknown(u8),
 }
 
 impl<'a> Client<'a> {
-    /// A client that sends frames for an account and is never let go.
-    pub fn new(bench: &'a Bench, account: u8, linger: &'a dyn Fn(Duration) -> bool) -> Client<'a> {
+    /// A client that sends frames for an account, and is let go if it sends none for so long.
+    pub fn new(bench: &'a Bench, account: u8, idle: Option<Duration>, host: &'a dyn Host) -> Client<'a> {
         Client {
             bench,
             account,
             buffered: 0,
-            until: None,
-            linger,
+            idle,
+            until: after(idle),
+            host,
         }
+    }
+
+    /// Waits until the part is the client's, whose time begins anew.
+    fn seat(&mut self) {
+        self.host.seat();
+        self.until = after(self.idle);
     }
 
     /// Reads one request and carries it out. There is none if the stream ends before it; if it ends within the request, that is an error,
@@ -151,9 +170,9 @@ impl<'a> Client<'a> {
             return Ok(None);
         };
         let (bytes, request) = match command {
-            O_SPIOP => (self.frame(requests)?, Request::Frame),
+            O_SPIOP => (self.frame(requests)?, Request::Known),
             command if command > LAST => (vec![NAK], Request::Unknown(command)),
-            command => (self.plain(command, requests)?, Request::Other),
+            command => (self.plain(command, requests)?, Request::Known),
         };
         Ok(Some(Reply { bytes, request }))
     }
@@ -193,6 +212,9 @@ impl<'a> Client<'a> {
 
     /// `O_EXEC`.
     fn pass_delays(&mut self) -> io::Result<Vec<u8>> {
+        if !self.host.is_seated() {
+            self.seat();
+        }
         if let Some(time) = self.bench.pass(self.buffered) {
             self.wait(time)?;
         }
@@ -203,7 +225,7 @@ impl<'a> Client<'a> {
     fn wait(&self, time: Duration) -> io::Result<()> {
         let begun = Instant::now();
         while begun.elapsed() < time {
-            if !(self.linger)(time - begun.elapsed().min(time)) {
+            if !self.host.linger(time - begun.elapsed().min(time)) {
                 return Err(io::ErrorKind::UnexpectedEof.into());
             }
             if self.until.is_some_and(|until| until <= Instant::now()) {
@@ -219,16 +241,23 @@ impl<'a> Client<'a> {
         let read = length(parameters(requests)?);
         if sent + read > LONGEST_FRAME {
             skip(requests, sent)?;
+            self.until = after(self.idle);
             self.bench.refuse(self.account, sent, read, Refusal::InputLength);
             return Ok(vec![NAK]);
         }
         let mut input = vec![0; sent + read];
         requests.read_exact(&mut input[..sent])?;
+        self.seat();
         Ok(match self.bench.frame(self.account, &input, sent) {
             Ok(output) => ack(&output[sent..]),
             Err(_) => vec![NAK],
         })
     }
+}
+
+/// The moment after this time, if there is one.
+fn after(time: Option<Duration>) -> Option<Instant> {
+    time.map(|time| Instant::now() + time)
 }
 
 /// `S_BUSTYPE`: of several buses the programmer may choose, so the one it has must be among them.
@@ -317,9 +346,24 @@ mod tests {
         Bench::new(Desk::new(Part::blank(Size::Whole)), true, ticks_per_byte, None)
     }
 
+    /// A host with one client, which is always there.
+    struct Alone;
+
+    impl Host for Alone {
+        fn seat(&self) {}
+
+        fn is_seated(&self) -> bool {
+            true
+        }
+
+        fn linger(&self, _time: Duration) -> bool {
+            true
+        }
+    }
+
     /// A client for an account that is always there.
     fn client_of(bench: &Bench, account: u8) -> Client<'_> {
-        Client::new(bench, account, &|_| true)
+        Client::new(bench, account, None, &Alone)
     }
 
     /// The replies to a client's requests, which end with the stream.
@@ -426,7 +470,7 @@ mod tests {
         let refused = client.reply(&mut &[0x13, 0x00, 0x00, 0x00, 0x01, 0x20, 0x00][..]).expect("whole");
         let wanted = Reply {
             bytes: vec![0x15],
-            request: Request::Frame,
+            request: Request::Known,
         };
         assert_eq!(refused, Some(wanted));
         assert_eq!((client.buffered, ticks(&bench).1), (0, 5));
