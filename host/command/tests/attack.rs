@@ -807,7 +807,7 @@ fn clients_that_stay_do_not_keep_the_server_from_ending() {
     drop((mute, clients));
 }
 
-/// 20 connections say nothing at all. They have no seat, so nobody waits for them.
+/// Ten connections say nothing at all, and ten stop in the middle of a frame. They have no seat, so nobody waits for them.
 #[test]
 fn connections_that_send_no_frame_keep_nobody_waiting() {
     let server = Server::start(&folder("attack", "mute"), &["--port", "0"]);
