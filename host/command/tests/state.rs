@@ -137,6 +137,14 @@ fn a_month_is_closed_and_what_runs_goes_on() {
     );
 }
 
+/// How a call ends whose words nobody gets, since they go to a device that is full.
+fn unread(words: &[&str]) -> Option<i32> {
+    let full = fs::OpenOptions::new().write(true).open("/dev/full").expect("a device that is full");
+    let mut command = Command::new(env!("CARGO_BIN_EXE_oxterin"));
+    let ended = command.args(words).stdout(full).stderr(Stdio::null()).status();
+    ended.expect("the command ends").code()
+}
+
 /// A bill that cannot be written closes nothing.
 #[test]
 fn a_bill_that_nobody_gets_closes_nothing() {
@@ -146,14 +154,7 @@ fn a_bill_that_nobody_gets_closes_nothing() {
         "06 account=7\n20 00 00 00 account=7\n05 00 +20000\n",
     );
     let before = fs::read(&state).expect("there");
-    let full = fs::OpenOptions::new().write(true).open("/dev/full").expect("a device that is full");
-    let ended = Command::new(env!("CARGO_BIN_EXE_oxterin"))
-        .args(["bill", "--state", word(&state), "--close"])
-        .stdout(full)
-        .stderr(Stdio::null())
-        .status()
-        .expect("the command ends");
-    assert_eq!(ended.code(), Some(2));
+    assert_eq!(unread(&["bill", "--state", word(&state), "--close"]), Some(2));
     assert!(fs::read(&state).expect("there") == before);
 }
 
@@ -165,14 +166,8 @@ fn a_bill_of_frames_that_nobody_gets_saves_nothing() {
     fs::write(&frames, DAY).expect("frames");
     let before = fs::read(&state).expect("there");
     for more in [&[][..], &["--close"]] {
-        let full = fs::OpenOptions::new().write(true).open("/dev/full").expect("a device that is full");
-        let ended = Command::new(env!("CARGO_BIN_EXE_oxterin"))
-            .args([&["bill", word(&frames), "--state", word(&state)], more].concat())
-            .stdout(full)
-            .stderr(Stdio::null())
-            .status()
-            .expect("the command ends");
-        assert_eq!(ended.code(), Some(2));
+        let words = [&["bill", word(&frames), "--state", word(&state)], more].concat();
+        assert_eq!(unread(&words), Some(2));
         assert!(fs::read(&state).expect("there") == before);
     }
 }
