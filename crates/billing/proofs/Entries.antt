@@ -1,4 +1,4 @@
--- One call of a series through the ledger, by whether it is refused; and two lists joined. Assumes nothing.
+-- One call of a series through the ledger, by whether it is refused. Assumes nothing.
 use mathlib.Core.Bool.{Bool, true, false, false≢true, cond, _&&_}
 use mathlib.Core.List.{List, [], _∷_, _++_}
 use mathlib.Core.Logic.{_≢_}
@@ -6,6 +6,7 @@ use mathlib.Core.Path.{_≡_, refl, sym, ap, _∙_}
 use native.Mathlib.Omega.{arith}
 use borrow.Author.Tests.{eq-eqb, ne-eqb}
 use lib.Dec.{eqb}
+use Rattle.runs.specs.Run as run
 use Rattle.sheet.specs.declared.device.Device.{Device}
 use Rattle.lent.specs.declared.refusal.Lengths.{Lengths}
 use Rattle.part.specs.Frame as part
@@ -15,7 +16,7 @@ use Rattle.series.specs.Turns.{callOf, lengthsOf}
 use Rattle.series.proofs.Turns.{refused-reply}
 use Rattle.accounts.specs.Ledger.{Ledger, shut, booked}
 use Rattle.ledger.specs.Frame.{shutOut, replied}
-use Rattle.billing.specs.Entries.{Entry, Done, replyTo, ledgerBy, doneOf, calls, lastRecord, lastLedger, turnsThrough}
+use Rattle.billing.specs.Entries.{Entry, replyTo, ledgerBy, doneOf, books, next, calls, lastRecord, lastLedger, turnsThrough}
 
 module _ (e : Entry) (d : Device) (l : Ledger) where
   abbrev c : Call
@@ -50,11 +51,14 @@ module _ (e : Entry) (d : Device) (l : Ledger) where
   unfolding booked
   refused-ledger n = rw (ne-eqb (replyTo e d l .refusal) 0 n)
 
--- what follows depends on the record and the ledger alone
-pub onward : (es : List Entry) (d also : Device) (l kept : Ledger) → d ≡ also → l ≡ kept
-    → (calls es d l ≡ calls es also kept) × (lastRecord es d l ≡ lastRecord es also kept) × (lastLedger es d l ≡ lastLedger es also kept)
-    × (turnsThrough es d l ≡ turnsThrough es also kept)
-onward es d also l kept p q = (rw (p, q), rw (p, q), rw (p, q), rw (p, q))
+  -- so all stands as it stood
+  pub refused-stays : replyTo e d l .refusal ≢ 0 → next e (books d l) ≡ books d l
+  refused-stays n = rw (refused-ledger n) (ap (λ (r : part.Reply). books (r .device) l) (refused-through n))
+
+-- at most one thing, before others
+at-most-one : {A : Type 0} (out : Bool) (x : A) (xs : List A) → cond out [] (x ∷ []) ++ xs ≡ cond out xs (x ∷ xs)
+at-most-one true x xs = refl
+at-most-one false x xs = refl
 
 -- one step
 pub one-entry : (e : Entry) (es : List Entry) (d : Device) (l : Ledger)
@@ -64,21 +68,5 @@ pub one-entry : (e : Entry) (es : List Entry) (d : Device) (l : Ledger)
     × (turnsThrough (e ∷ es) d l
     ≡ cond (shutOut (callOf (e .turn) d) (lengthsOf (e .turn)) (e .account) l) (turnsThrough es (replyTo e d l .device) (ledgerBy e d l))
     (e .turn ∷ turnsThrough es (replyTo e d l .device) (ledgerBy e d l)))
-unfolding calls lastRecord lastLedger turnsThrough
-one-entry e es d l = (refl, refl, refl, refl)
-
--- two lists joined: the second one starts with the record and the ledger that the first one left
-pub calls-joined : (es fs : List Entry) (d : Device) (l : Ledger) → calls (es ++ fs) d l ≡ calls es d l ++ calls fs (lastRecord es d l) (lastLedger es d l)
-unfolding calls lastRecord lastLedger
-calls-joined [] fs d l = refl
-calls-joined (e ∷ es) fs d l = ap (λ (cs : List Done). doneOf e d l ∷ cs) (calls-joined es fs (replyTo e d l .device) (ledgerBy e d l))
-
-pub record-joined : (es fs : List Entry) (d : Device) (l : Ledger) → lastRecord (es ++ fs) d l ≡ lastRecord fs (lastRecord es d l) (lastLedger es d l)
-unfolding lastRecord lastLedger
-record-joined [] fs d l = refl
-record-joined (e ∷ es) fs d l = record-joined es fs (replyTo e d l .device) (ledgerBy e d l)
-
-pub ledger-joined : (es fs : List Entry) (d : Device) (l : Ledger) → lastLedger (es ++ fs) d l ≡ lastLedger fs (lastRecord es d l) (lastLedger es d l)
-unfolding lastRecord lastLedger
-ledger-joined [] fs d l = refl
-ledger-joined (e ∷ es) fs d l = ledger-joined es fs (replyTo e d l .device) (ledgerBy e d l)
+unfolding run.end run.gathered
+one-entry e es d l = (refl, refl, refl, at-most-one (shutOut (callOf (e .turn) d) (lengthsOf (e .turn)) (e .account) l) (e .turn) _)

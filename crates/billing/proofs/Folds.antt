@@ -9,6 +9,7 @@ use native.Mathlib.Omega.{arith}
 use borrow.Author.Tests.{lt-ltb, eq-eqb, ne-eqb}
 use lib.Dec.{eqb}
 use lib.ListN.{length, getD}
+use Rattle.runs.specs.Run as run
 use Rattle.sheet.specs.declared.device.Device.{Device}
 use Rattle.accounts.specs.declared.Running.{Running}
 use Rattle.accounts.specs.Ledger.{Ledger, isAccount, runs, nobody, at, paid}
@@ -97,7 +98,7 @@ pub in-the-end : (P : Ledger → Ledger → ℕ → List Done → Type 0) → ((
     → ((last : Ledger) (c : Done) (cs : List Done) (l l′ : Ledger) (busy′ : ℕ) → Right l (c .call .device .busy) → Stepped c l l′ (c .call .device .busy) busy′
     → P last l′ busy′ cs → P last l (c .call .device .busy) (c ∷ cs))
     → (es : List Entry) (d : Device) (l : Ledger) → Right l (d .busy) → P (lastLedger es d l) l (d .busy) (calls es d l)
-unfolding lastLedger calls
+unfolding run.end run.gathered
 in-the-end P base step [] d l r = base l (d .busy) r
 in-the-end P base step (e ∷ es) d l r =
     let c = doneOf e d l in

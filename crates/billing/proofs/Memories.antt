@@ -2,7 +2,9 @@
 -- Assumes nothing.
 use mathlib.Core.Bool.{Bool, true, false, cond}
 use mathlib.Core.List.{List, [], _∷_, map}
-use mathlib.Core.Path.{_≡_, refl, sym, ap, subst, _∙_}
+use mathlib.Core.Path.{_≡_, refl, sym, ap, _∙_}
+use Rattle.runs.specs.Run as run
+use Rattle.runs.proofs.Laws.{gathered-mapped, end-seen, end-alike, gathered-alike, outputs-alike, as-the-run, can-be-run as run-of}
 use Rattle.lent.specs.declared.refusal.Lengths.{Lengths}
 use Rattle.lent.specs.declared.refusal.Refusal.{Refusal}
 use Rattle.part.specs.declared.frame.Answer.{Answer}
@@ -14,12 +16,24 @@ use Rattle.series.specs.Series as series
 use Rattle.series.specs.Series.{Step, lentTo}
 use Rattle.series.proofs.Lending.{returned-same}
 use Rattle.series.proofs.Steps.{same-lengths}
-use Rattle.accounts.specs.Ledger.{ledger, booked}
-use Rattle.ledger.specs.Frame.{Result, shutOut, replied, frame, Meets}
-use Rattle.billing.specs.Entries.{entry, replyTo, ledgerBy, calls, lastRecord, lastLedger, turnsThrough}
-use Rattle.billing.specs.Series.{Booking, Desk, Made, entriesOf, resultOf, left, results, end, stepsThrough, madeOf, Ran}
+use Rattle.accounts.specs.Ledger.{booked}
+use Rattle.ledger.specs.Frame.{Result, shutOut, replied, frame}
+use Rattle.billing.specs.Entries as entries
+use Rattle.billing.specs.Entries.{Entry, Done, Books, entry, books, replyTo, ledgerBy, calls, lastRecord, lastLedger, turnsThrough}
+use Rattle.billing.specs.Series.{Booking, Desk, Made, entriesOf, resultOf, left, next, results, end, letThrough, stepsThrough, madeOf, Ran}
 use Rattle.billing.specs.Promises.{answersOf}
-use Rattle.billing.proofs.Entries.{onward}
+
+abbrev booksOf : Desk → Books
+booksOf t = books (t .state .device) (t .ledger)
+
+abbrev entryOf : Booking → Entry
+entryOf b = entry (b .step .turn) (b .account)
+
+abbrev replyIn : Result → Reply
+replyIn r = r .reply
+
+abbrev turnIn : Step → Turn
+turnIn s = s .turn
 
 module _ (b : Booking) (t : Desk) where
   abbrev turn : Turn
@@ -64,81 +78,56 @@ module _ (b : Booking) (t : Desk) where
       by true = refl
       by false = ap (λ (r : part.Result). r .reply) (some-answer c m)
 
-pub as-the-part : (bs : List Booking) (t : Desk) → end bs t .state ≡ series.end (stepsThrough bs t) (t .state)
-unfolding end stepsThrough series.end
-as-the-part [] t = refl
-as-the-part (b ∷ bs) t = as-the-part bs (left (resultOf b t) t) ∙ by (shutTo b t (lengthsOf (b .step .turn))) refl
-  where
-    by : (s : Bool) → shutTo b t (lengthsOf (b .step .turn)) ≡ s
-        → series.end (stepsThrough bs (left (resultOf b t) t)) (left (resultOf b t) t .state)
-        ≡ series.end (cond s (stepsThrough bs (left (resultOf b t) t)) (b .step ∷ stepsThrough bs (left (resultOf b t) t))) (t .state)
-    by true e = ap (series.end (stepsThrough bs (left (resultOf b t) t))) (state-through b t true e)
-    by false e = ap (series.end (stepsThrough bs (left (resultOf b t) t))) (state-through b t false e)
+  -- it goes on as it is computed
+  goes-on : booksOf (next b t) ≡ entries.next (entryOf b) (booksOf t)
+  goes-on = rw (reply-through, ledger-through)
 
-turns-of : (shut : Bool) (s : Step) (ss : List Step) → series.turnsOf (cond shut ss (s ∷ ss)) ≡ cond shut (series.turnsOf ss) (s .turn ∷ series.turnsOf ss)
-turns-of true s ss = refl
-turns-of false s ss = refl
+  -- and the part's memories by the step that is let through, if it is
+  state-on : next b t .state ≡ series.end (letThrough b t) (t .state)
+  unfolding run.end
+  state-on = state-through (shutTo (lengthsOf turn)) refl ∙ by (shutTo (lengthsOf turn))
+    where
+      by : (shut : Bool) → cond shut (t .state) (series.next (b .step) (t .state)) ≡ series.end (cond shut [] (b .step ∷ [])) (t .state)
+      by true = refl
+      by false = refl
+
+  turns-on : map turnIn (letThrough b t) ≡ entries.letThrough (entryOf b) (booksOf t)
+  turns-on = by (shutTo (lengthsOf turn))
+    where
+      by : (shut : Bool) → map turnIn (cond shut [] (b .step ∷ [])) ≡ cond shut [] (turn ∷ [])
+      by true = refl
+      by false = refl
+
+  -- a call that meets the contract of the code
+  pub made : Made
+  made =
+      let l = resultOf b t .ledger in
+      record { booked = record { answer = answerTo; running = l .running }; lent = resultOf b t .lent; totals = l .totals; most = l .most; numbers = l .numbers }
+
+  pub meets : madeOf made ≡ resultOf b t
+  unfolding made
+  meets = ap {B = Result} (λ (r : Reply). record { reply = r; lent = resultOf b t .lent; ledger = resultOf b t .ledger }) answers
+
+pub as-the-part : (bs : List Booking) (t : Desk) → end bs t .state ≡ series.end (stepsThrough bs t) (t .state)
+as-the-part = end-seen next series.next (λ (t : Desk). t .state) letThrough state-on
 
 pub as-computed : (bs : List Booking) (t : Desk)
-    → (map (λ (r : Result). r .reply) (results bs t) ≡ answersOf (calls (entriesOf bs) (t .state .device) (t .ledger)))
+    → (map replyIn (results bs t) ≡ answersOf (calls (entriesOf bs) (t .state .device) (t .ledger)))
     × (end bs t .state .device ≡ lastRecord (entriesOf bs) (t .state .device) (t .ledger))
     × (end bs t .ledger ≡ lastLedger (entriesOf bs) (t .state .device) (t .ledger))
     × (series.turnsOf (stepsThrough bs t) ≡ turnsThrough (entriesOf bs) (t .state .device) (t .ledger))
-unfolding results end calls lastRecord lastLedger stepsThrough turnsThrough
-as-computed [] t = (refl, refl, refl, refl)
-as-computed (b ∷ bs) t =
-    let rest = as-computed bs (left (resultOf b t) t) in
-    let on = onward (entriesOf bs) _ _ _ _ (ap (λ (r : Reply). r .device) (reply-through b t)) (ledger-through b t) in
-    let e = entry (b .step .turn) (b .account) in (
-      ap (λ (rs : List Reply). resultOf b t .reply ∷ rs) (rest .0 ∙ ap answersOf (on .0)) ∙
-          ap (λ (r : Reply). r ∷ answersOf (calls (entriesOf bs) (replyTo e (t .state .device) (t .ledger) .device) (ledgerBy e (t .state .device) (t .ledger)))) (reply-through b t),
-      rest .1 ∙ on .1,
-      rest .2 ∙ on .2,
-      turns-of (shutTo b t (lengthsOf (b .step .turn))) (b .step) (stepsThrough bs (left (resultOf b t) t)) ∙
-          ap (λ (ts : List Turn). cond (shutTo b t (lengthsOf (b .step .turn))) ts (b .step .turn ∷ ts)) (rest .3 ∙ on .3),
+as-computed bs t =
+    let last = end-alike next entries.next booksOf entryOf goes-on bs t in (
+      outputs-alike next entries.next booksOf entryOf goes-on replyIn resultOf (λ e v. replyTo e (v .device) (v .ledger)) reply-through bs t ∙
+          sym (gathered-mapped entries.next (λ (c : Done). c .reply) (run.one entries.doneOn) (entriesOf bs) (booksOf t)),
+      ap (λ (v : Books). v .device) last,
+      ap (λ (v : Books). v .ledger) last,
+      gathered-mapped next turnIn letThrough bs t ∙
+          gathered-alike next entries.next booksOf entryOf goes-on (λ b t. map turnIn (letThrough b t)) entries.letThrough turns-on bs t,
     )
-
--- one step
-pub one-result : (b : Booking) (bs : List Booking) (t : Desk) → (results (b ∷ bs) t ≡ resultOf b t ∷ results bs (left (resultOf b t) t)) × (end (b ∷ bs) t ≡ end bs (left (resultOf b t) t))
-unfolding results end
-one-result b bs t = (refl, refl)
-
-pub one-run : (b : Booking) (bs : List Booking) (t u : Desk) (a : Made) (rest : List Made) → Ran (b ∷ bs) t (a ∷ rest) u
-    → Meets (callOf (b .step .turn) (t .state .device)) (lentTo (b .step) (t .state)) (b .account) (t .ledger) (replyOf (a .booked .answer)) (a .lent)
-    (ledger (a .totals) (a .most) (a .numbers) (a .booked .running))
-    × Ran bs (left (madeOf a) t) rest u
-unfolding Ran
-one-run b bs t u a rest r = r
 
 pub as-the-code-does : (bs : List Booking) (t u : Desk) (cs : List Made) → Ran bs t cs u → (map madeOf cs ≡ results bs t) × (u ≡ end bs t)
-unfolding Ran results end
-as-the-code-does [] t u [] r = (refl, sym r)
-as-the-code-does [] t u (c ∷ cs) r = absurd r
-as-the-code-does (b ∷ bs) t u [] r = absurd r
-as-the-code-does (b ∷ bs) t u (c ∷ cs) r =
-    let rest = as-the-code-does bs (left (madeOf c) t) u cs (r .1) in (
-      ap (λ (x : Result). x ∷ map madeOf cs) (r .0) ∙ ap (λ (rs : List Result). resultOf b t ∷ rs) (rest .0 ∙ ap (λ (x : Result). results bs (left x t)) (r .0)),
-      rest .1 ∙ ap (λ (x : Result). end bs (left x t)) (r .0),
-    )
+as-the-code-does = as-the-run resultOf left madeOf
 
--- a run of the code
-pub made : List Booking → Desk → List Made
-made [] t = []
-made (b ∷ bs) t =
-    let r = resultOf b t in
-    record {
-      booked = record { answer = answerTo b t; running = r .ledger .running };
-      lent = r .lent;
-      totals = r .ledger .totals;
-      most = r .ledger .most;
-      numbers = r .ledger .numbers;
-    } ∷
-    made bs (left r t)
-
-pub runs : (bs : List Booking) (t : Desk) → Ran bs t (made bs t) (end bs t)
-unfolding Ran made end
-runs [] t = refl
-runs (b ∷ bs) t =
-    let rest = left (resultOf b t) t in
-    let answer = ap {B = Result} (λ (r : Reply). record { reply = r; lent = resultOf b t .lent; ledger = resultOf b t .ledger }) (answers b t) in
-    (answer, subst (λ (r : Result). Ran bs (left r t) (made bs rest) (end bs rest)) (sym answer) (runs bs rest))
+pub can-be-run : (bs : List Booking) (t : Desk) → (cs : List Made) × Ran bs t cs (end bs t)
+can-be-run bs t = (_, run-of resultOf left madeOf made meets bs t)

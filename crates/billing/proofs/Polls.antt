@@ -4,17 +4,17 @@ use Prim.Native.String.{String}
 use mathlib.Core.Bool.{Bool, true, false}
 use mathlib.Core.List.{List, _∷_, _++_}
 use mathlib.Core.Logic.{_≢_}
-use mathlib.Core.Path.{_≡_, refl, sym, ap, subst, _∙_}
+use mathlib.Core.Path.{_≡_, refl, sym, ap, subst}
 use borrow.Author.Tests.{lt-ltb}
 use lib.Dec.{T}
 use lib.Text.{eqt, eqt→eq}
+use Rattle.runs.proofs.Laws.{left-out, exchanged}
 use Rattle.sheet.specs.declared.device.Device.{Device}
-use Rattle.part.specs.Frame.{Reply}
 use Rattle.series.specs.Turns.{Turn}
 use Rattle.accounts.specs.Ledger.{Ledger, booked}
 use Rattle.ledger.specs.Frame.{replied}
-use Rattle.billing.specs.Entries.{Entry, entry, replyTo, ledgerBy, lastRecord, lastLedger}
-use Rattle.billing.proofs.Entries.{refused-through, refused-ledger, onward, record-joined, ledger-joined}
+use Rattle.billing.specs.Entries.{Entry, Books, entry, replyTo, books, next, lastRecord, lastLedger}
+use Rattle.billing.proofs.Entries.{refused-stays}
 
 -- a word that is not begun
 not-begun : (word : String) → word ≢ "begun" → eqt word "begun" ≡ false
@@ -29,29 +29,23 @@ module _ (turn : Turn) (account other : ℕ) (d : Device) (l : Ledger) (low : ac
   unfolding replied
   same-reply = rw (lt-ltb account 256 low, lt-ltb other 256 also)
 
-  same-ledger : replyTo (entry turn account) d l .outcome ≢ "begun" → ledgerBy (entry turn account) d l ≡ ledgerBy (entry turn other) d l
+  same-next : replyTo (entry turn account) d l .outcome ≢ "begun" → next (entry turn account) (books d l) ≡ next (entry turn other) (books d l)
   unfolding booked
-  same-ledger n = rw (← same-reply, not-begun (replyTo (entry turn account) d l .outcome) n)
+  same-next n = rw (← same-reply, not-begun (replyTo (entry turn account) d l .outcome) n)
 
 pub whoever-polls : (before after : List Entry) (turn : Turn) (account other : ℕ) (d : Device) (l : Ledger) → account < 256 → other < 256
     → replyTo (entry turn account) (lastRecord before d l) (lastLedger before d l) .outcome ≢ "begun"
     → (lastLedger (before ++ entry turn account ∷ after) d l ≡ lastLedger (before ++ entry turn other ∷ after) d l)
     × (lastRecord (before ++ entry turn account ∷ after) d l ≡ lastRecord (before ++ entry turn other ∷ after) d l)
-unfolding lastLedger lastRecord
 whoever-polls before after turn account other d l low also n =
-    let same = same-reply turn account other (lastRecord before d l) (lastLedger before d l) low also in
-    let on = onward after _ _ _ _ (ap (λ (r : Reply). r .device) same) (same-ledger turn account other (lastRecord before d l) (lastLedger before d l) low also n) in (
-      ledger-joined before (entry turn account ∷ after) d l ∙ (on .2 ∙ sym (ledger-joined before (entry turn other ∷ after) d l)),
-      record-joined before (entry turn account ∷ after) d l ∙ (on .1 ∙ sym (record-joined before (entry turn other ∷ after) d l)),
-    )
+    let same =
+    exchanged next before after (entry turn account) (entry turn other) (books d l)
+    (same-next turn account other (lastRecord before d l) (lastLedger before d l) low also n) in
+    (ap (λ (b : Books). b .ledger) same, ap (λ (b : Books). b .device) same)
 
 pub refused-changes-nothing : (before after : List Entry) (e : Entry) (d : Device) (l : Ledger)
     → replyTo e (lastRecord before d l) (lastLedger before d l) .refusal ≢ 0
     → (lastLedger (before ++ e ∷ after) d l ≡ lastLedger (before ++ after) d l) × (lastRecord (before ++ e ∷ after) d l ≡ lastRecord (before ++ after) d l)
-unfolding lastLedger lastRecord
 refused-changes-nothing before after e d l n =
-    let kept = ap (λ (r : Reply). r .device) (refused-through e (lastRecord before d l) (lastLedger before d l) n) in
-    let on = onward after _ _ _ _ kept (refused-ledger e (lastRecord before d l) (lastLedger before d l) n) in (
-      ledger-joined before (e ∷ after) d l ∙ (on .2 ∙ sym (ledger-joined before after d l)),
-      record-joined before (e ∷ after) d l ∙ (on .1 ∙ sym (record-joined before after d l)),
-    )
+    let same = left-out next before after e (books d l) (refused-stays e (lastRecord before d l) (lastLedger before d l) n) in
+    (ap (λ (b : Books). b .ledger) same, ap (λ (b : Books). b .device) same)

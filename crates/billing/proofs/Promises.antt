@@ -3,6 +3,8 @@ use Prim.Native.Nat.{ℕ, _<_}
 use mathlib.Core.List.{List, map}
 use mathlib.Core.Path.{_≡_, refl, sym, ap, _∙_}
 use lib.ListN.{length, getD}
+use Rattle.runs.specs.Run as run
+use Rattle.runs.proofs.Laws.{one-end, one-gathered, one-ran}
 use Rattle.series.specs.Turns as turns
 use Rattle.series.specs.Turns.{Turn, callOf, lengthsOf}
 use Rattle.series.specs.Series as series
@@ -14,12 +16,12 @@ use Rattle.ledger.specs.Frame.{Result}
 use Rattle.ledger.proofs.Frames.{nine-exactly}
 use Rattle.billing.specs.Entries.{lastLedger}
 use Rattle.billing.specs.Operations.{sum, largest}
-use Rattle.billing.specs.Series.{Booking, Desk, Made, entriesOf, results, end, stepsThrough, Ran}
+use Rattle.billing.specs.Series.{Booking, Desk, Made, entriesOf, resultOf, left, next, results, end, stepsThrough, madeOf, Ran}
 use Rattle.billing.specs.Promises.{Promises, billsIn, effects}
 use Rattle.billing.proofs.Entries.{one-entry}
 use Rattle.billing.proofs.Bills.{from-empty, all-together}
 use Rattle.billing.proofs.Polls.{whoever-polls, refused-changes-nothing}
-use Rattle.billing.proofs.Memories.{as-the-part, as-computed, one-result, one-run, as-the-code-does, made, runs}
+use Rattle.billing.proofs.Memories.{as-the-part, as-computed, as-the-code-does, can-be-run}
 
 never-from-stored-bytes : (bs also : List Booking) (t u : Desk) → entriesOf bs ≡ entriesOf also → t .state .device ≡ u .state .device → t .ledger ≡ u .ledger
     → (map (λ (r : Result). r .reply) (results bs t) ≡ map (λ (r : Result). r .reply) (results also u)) × (end bs t .ledger ≡ end also u .ledger)
@@ -53,8 +55,8 @@ pub promises : Promises
 promises =
     record {
       one-after-the-other = λ e es d l c r k p q s. rw (s, q, p) (one-entry e es d l);
-      frame-by-frame = λ b bs t r p. rw p (one-result b bs t);
-      call-by-call = one-run;
+      frame-by-frame = λ b bs t r p. rw p (one-gathered next (run.one resultOf) b bs t, one-end next b bs t);
+      call-by-call = one-ran resultOf left madeOf;
       nine-exactly = λ e d l. nine-exactly (callOf (e .turn) d) (lengthsOf (e .turn)) (e .account) l;
       billed-by-the-code = billed-by-the-code;
       billed-to-the-beginner = from-empty;
@@ -66,5 +68,5 @@ promises =
       never-from-stored-bytes = never-from-stored-bytes;
       and-since-the-last-erase = and-since-the-last-erase;
       as-the-code-does = as-the-code-does;
-      can-be-run = λ bs t. (made bs t, runs bs t);
+      can-be-run = can-be-run;
     }

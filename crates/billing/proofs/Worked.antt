@@ -1,5 +1,6 @@
 -- The worked series end as they are said to. Assumes nothing.
 use mathlib.Core.Path.{refl}
+use Rattle.runs.specs.Run as run
 use Rattle.opcodes.specs.Rows.{rowOf, rows, lookup}
 use Rattle.settings.specs.Settings.{anyUnfair}
 use Rattle.sheet.specs.Judging.{judged, byOpcode}
@@ -7,9 +8,8 @@ use Rattle.lent.specs.Refusal.{refusalOf}
 use Rattle.part.specs.Frame as part
 use Rattle.ledger.specs.Frame.{replied}
 use Rattle.accounts.specs.Ledger.{aboveBefore, booked}
-use Rattle.billing.specs.Entries.{lastLedger}
 use Rattle.billing.specs.Worked.{Worked}
 
 pub worked : Worked
-unfolding lastLedger replied booked aboveBefore part.replied part.numberFor part.judgedOf refusalOf anyUnfair judged byOpcode rowOf rows lookup
+unfolding run.end replied booked aboveBefore part.replied part.numberFor part.judgedOf refusalOf anyUnfair judged byOpcode rowOf rows lookup
 worked = record { first-million = refl; all-day = refl; nothing = refl; reset = refl; nobodys = refl; both = refl }

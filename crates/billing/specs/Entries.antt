@@ -4,6 +4,7 @@
 use Prim.Native.Nat.{ℕ}
 use mathlib.Core.Bool.{cond}
 use mathlib.Core.List.{List, [], _∷_}
+use Rattle.runs.specs.Run as run
 use Rattle.sheet.specs.declared.device.Device.{Device}
 use Rattle.part.specs.Frame.{Call, Reply}
 use Rattle.series.specs.Turns.{Turn, callOf, lengthsOf}
@@ -35,23 +36,35 @@ pub record Done : Type 0 where
 abbrev pub doneOf : Entry → Device → Ledger → Done
 doneOf e d l = record { account = e .account; call = callOf (e .turn) d; reply = replyTo e d l }
 
+-- what stands between the calls: the record and the ledger
+pub record Books : Type 0 where
+  pub device : Device
+  pub ledger : Ledger
+
+abbrev pub books : Device → Ledger → Books
+books d l = record { device = d; ledger = l }
+
+abbrev pub next : Entry → Books → Books
+next e b = books (replyTo e (b .device) (b .ledger) .device) (ledgerBy e (b .device) (b .ledger))
+
+-- the turn, unless the ledger shut it out with refusal 9
+abbrev pub letThrough : Entry → Books → List Turn
+letThrough e b = cond (through.shutOut (callOf (e .turn) (b .device)) (lengthsOf (e .turn)) (e .account) (b .ledger)) [] (e .turn ∷ [])
+
 -- the calls of a series, in order
-unfoldable pub calls : List Entry → Device → Ledger → List Done
-calls [] d l = []
-calls (e ∷ es) d l = doneOf e d l ∷ calls es (replyTo e d l .device) (ledgerBy e d l)
+abbrev pub doneOn : Entry → Books → Done
+doneOn e b = doneOf e (b .device) (b .ledger)
+
+abbrev pub calls : List Entry → Device → Ledger → List Done
+calls es d l = run.outputs next doneOn es (books d l)
 
 -- the last record, and the last ledger
-unfoldable pub lastRecord : List Entry → Device → Ledger → Device
-lastRecord [] d l = d
-lastRecord (e ∷ es) d l = lastRecord es (replyTo e d l .device) (ledgerBy e d l)
+abbrev pub lastRecord : List Entry → Device → Ledger → Device
+lastRecord es d l = run.end next es (books d l) .device
 
-unfoldable pub lastLedger : List Entry → Device → Ledger → Ledger
-lastLedger [] d l = l
-lastLedger (e ∷ es) d l = lastLedger es (replyTo e d l .device) (ledgerBy e d l)
+abbrev pub lastLedger : List Entry → Device → Ledger → Ledger
+lastLedger es d l = run.end next es (books d l) .ledger
 
--- the turns that the ledger let through, to which it did not give refusal 9
-unfoldable pub turnsThrough : List Entry → Device → Ledger → List Turn
-turnsThrough [] d l = []
-turnsThrough (e ∷ es) d l =
-    let rest = turnsThrough es (replyTo e d l .device) (ledgerBy e d l) in
-    cond (through.shutOut (callOf (e .turn) d) (lengthsOf (e .turn)) (e .account) l) rest (e .turn ∷ rest)
+-- the turns that the ledger let through
+abbrev pub turnsThrough : List Entry → Device → Ledger → List Turn
+turnsThrough es d l = run.gathered next letThrough es (books d l)

@@ -6,38 +6,33 @@ use mathlib.Core.List.{List, [], _∷_, _++_, map}
 use mathlib.Core.Path.{_≡_, refl, sym, ap, _∙_}
 use lib.Bits.{bitAnd}
 use lib.ListN.{length}
+use Rattle.runs.specs.Run as run
+use Rattle.runs.proofs.Laws.{end-joined, kept}
 use Rattle.cells.specs.Each.{Cell, each, over}
 use Rattle.cells.specs.Page.{aimedAt, last}
 use Rattle.cells.proofs.Places.{length-each, each-same, each-then}
 use Rattle.cells.proofs.Laws.{programs-commute, program-twice, erase-twice}
 use Rattle.memory.specs.Operations.{Operation, none, program, erase, cellOf}
-use Rattle.series.specs.Bytes.{Program, applied, erases, erasedIn, since, byteOf, bytesAt, andAll, startAt, programOf}
+use Rattle.series.specs.Bytes.{Program, carried, applied, erases, erasedIn, since, byteOf, bytesAt, andAll, startAt, programOf}
 
 -- two lists joined: the second on what the first one left
 pub applied-joined : (os ps : List Operation) (xs : List ℕ) → applied (os ++ ps) xs ≡ applied ps (applied os xs)
 unfolding applied
-applied-joined [] ps xs = refl
-applied-joined (o ∷ os) ps xs = applied-joined os ps (each (cellOf o) xs)
+applied-joined = end-joined carried
 
 pub length-applied : (os : List Operation) (xs : List ℕ) → length (applied os xs) ≡ length xs
 unfolding applied
-length-applied [] xs = refl
-length-applied (o ∷ os) xs = length-applied os (each (cellOf o) xs) ∙ length-each (cellOf o) xs
+length-applied os xs = kept carried (λ (ys : List ℕ). length ys ≡ length xs) (λ o ys e. length-each (cellOf o) ys ∙ e) os xs refl
 
 -- what the operations make of the byte at a place
 unfoldable pub through : List Operation → Cell
-through [] k x = x
-through (o ∷ os) k x = through os k (cellOf o k x)
+unfolding run.end
+through os k x = run.end (λ o x. cellOf o k x) os x
 
 pub applied-each : (os : List Operation) (xs : List ℕ) → applied os xs ≡ each (through os) xs
 unfolding applied through
 applied-each [] xs = each-same xs
 applied-each (o ∷ os) xs = applied-each os (each (cellOf o) xs) ∙ each-then (through os) (cellOf o) (through (o ∷ os)) xs (λ k l. refl)
-
-and-joined : (x : ℕ) (bs cs : List ℕ) → andAll x (bs ++ cs) ≡ andAll (andAll x bs) cs
-unfolding andAll
-and-joined x [] cs = refl
-and-joined x (b ∷ bs) cs = and-joined (bitAnd x b) bs cs
 
 -- an operation that does not erase the place ANDs the byte that it programs there
 one-anded : (o : Operation) (k x : ℕ) → erases o k ≡ false → cellOf o k x ≡ andAll x (byteOf o k)
@@ -66,7 +61,7 @@ all-anded (o ∷ os) k x e = by (erases o k) refl (all-anded os k (cellOf o k x)
     by : (b : Bool) → erases o k ≡ b → (erasedIn os k ≡ false → through os k (cellOf o k x) ≡ andAll (cellOf o k x) (bytesAt os k)) → (b || erasedIn os k) ≡ false
         → through os k (cellOf o k x) ≡ andAll x (byteOf o k ++ bytesAt os k)
     by true h ih e = absurd (true≢false e)
-    by false h ih e = ih e ∙ (ap (λ (y : ℕ). andAll y (bytesAt os k)) (one-anded o k x h) ∙ sym (and-joined x (byteOf o k) (bytesAt os k)))
+    by false h ih e = ih e ∙ (ap (λ (y : ℕ). andAll y (bytesAt os k)) (one-anded o k x h) ∙ sym (end-joined (λ b x. bitAnd x b) (byteOf o k) (bytesAt os k) x))
 
 all-since : (os : List Operation) (k : ℕ) → erasedIn os k ≡ false → since os k ≡ os
 unfolding since

@@ -4,9 +4,11 @@ use Prim.Native.String.{String}
 use mathlib.Core.Bool.{Bool, true, false, cond, and-false}
 use mathlib.Core.List.{List, [], _∷_, _++_, map, map-append}
 use mathlib.Core.Logic.{_≢_}
-use mathlib.Core.Path.{_≡_, refl, sym, ap, subst, _∙_}
+use mathlib.Core.Path.{_≡_, refl, sym, ap, _∙_}
 use lib.Dec.{eqb}
 use lib.ListN.{length, getD}
+use Rattle.runs.specs.Run as run
+use Rattle.runs.proofs.Laws.{one-end, one-gathered, one-ran, end-joined, gathered-joined, left-out, end-seen, end-alike, gathered-alike, outputs-alike, as-the-run, can-be-run as run-of}
 use Rattle.cells.proofs.Places.{getD-each, each-same}
 use Rattle.opcodes.specs.Rows.{rowOf, rows, lookup}
 use Rattle.sheet.specs.declared.device.Device.{Device}
@@ -17,72 +19,54 @@ use Rattle.sheet.proofs.Begins.{exactly-when}
 use Rattle.sheet.proofs.Leaves.{reset-still}
 use Rattle.sheet.proofs.Records.{sound-then}
 use Rattle.memory.specs.Operations.{Operation, onRegister}
-use Rattle.part.specs.Frame.{Reply, Result, Meets, factsOf, risen, judgedOf, numberFor}
+use Rattle.part.specs.Frame.{Reply, Result, factsOf, risen, judgedOf, numberFor}
 use Rattle.part.specs.Frame as part
 use Rattle.part.proofs.Answers.{answerOf, some-answer}
-use Rattle.series.specs.Turns.{Turn, callOf, lengthsOf, replyTo, effectOf, replies, operations, lastRecord}
-use Rattle.series.specs.Series.{Step, State, Made, turnsOf, lentTo, resultOf, left, results, end, madeOf, Ran}
-use Rattle.series.specs.Bytes.{applied, since, bytesAt, andAll, startAt}
+use Rattle.series.specs.Turns.{Turn, callOf, lengthsOf, replyTo, effectOf, onward, replies, operations, lastRecord}
+use Rattle.series.specs.Series.{Step, State, Made, turnsOf, lentTo, resultOf, left, next, results, end, madeOf}
+use Rattle.series.specs.Bytes.{carried, applied, since, bytesAt, andAll, startAt}
 use Rattle.series.specs.Promises.{Promises, effects, asRefused}
 use Rattle.series.proofs.Lending.{lent-all, returned-all}
-use Rattle.series.proofs.Applied.{applied-joined, applied-each, through, since-the-last-erase, programs-exchanged, operation-twice}
-use Rattle.series.proofs.Turns.{one-reply, one-operation, one-record, effect-begun, operations-joined, refused-reply, refused-effect, sound-series, each-works}
-use Rattle.series.proofs.Steps.{one-result, one-end, results-joined, end-joined, reply-is, array-is, register-is, refused-result, refused-left}
+use Rattle.series.proofs.Applied.{applied-each, through, since-the-last-erase, programs-exchanged, operation-twice}
+use Rattle.series.proofs.Turns.{effect-begun, refused-reply, refused-effect, sound-series, each-works}
+use Rattle.series.proofs.Steps.{reply-is, array-is, register-is, refused-result, refused-left}
 
 abbrev replyIn : Result → Reply
 replyIn r = r .reply
 
-as-carried-out : (ss : List Step) (t : State) → end ss t .array ≡ applied (effects ss t) (t .array)
-unfolding end operations applied
-as-carried-out [] t = refl
-as-carried-out (s ∷ ss) t =
-    as-carried-out ss (left (resultOf s t) t) ∙
-    (rw (reply-is s t, array-is s t) refl ∙
-    sym (applied-joined (effectOf (s .turn) (t .device)) (operations (turnsOf ss) (replyTo (s .turn) (t .device) .device)) (t .array)))
+abbrev deviceIn : State → Device
+deviceIn t = t .device
 
-as-the-code-does : (ss : List Step) (t u : State) (cs : List Made) → Ran ss t cs u → (map madeOf cs ≡ results ss t) × (u ≡ end ss t)
-unfolding Ran results end
-as-the-code-does [] t u [] r = (refl, sym r)
-as-the-code-does [] t u (c ∷ cs) r = absurd r
-as-the-code-does (s ∷ ss) t u [] r = absurd r
-as-the-code-does (s ∷ ss) t u (c ∷ cs) r =
-    let rest = as-the-code-does ss (left (madeOf c) t) u cs (r .1) in (
-      ap (λ (x : Result). x ∷ map madeOf cs) (r .0) ∙
-          ap (λ (rs : List Result). resultOf s t ∷ rs) (rest .0 ∙ ap (λ (x : Result). results ss (left x t)) (r .0)),
-      rest .1 ∙ ap (λ (x : Result). end ss (left x t)) (r .0),
-    )
+abbrev turnIn : Step → Turn
+turnIn s = s .turn
 
--- one call of a run
-one-run : (s : Step) (ss : List Step) (t u : State) (a : Made) (rest : List Made) → Ran (s ∷ ss) t (a ∷ rest) u
-    → Meets (callOf (s .turn) (t .device)) (lentTo s t) (a .answer) (a .lent) × Ran ss (left (madeOf a) t) rest u
-unfolding Ran
-one-run s ss t u a rest r = r
+abbrev effectIn : Step → State → List Operation
+effectIn s t = effectOf (s .turn) (t .device)
 
--- a run of the code
-made : List Step → State → List Made
-made [] t = []
-made (s ∷ ss) t =
-    record { answer = answerOf (callOf (s .turn) (t .device)) (part.lengthsOf (callOf (s .turn) (t .device)) (lentTo s t)); lent = resultOf s t .lent } ∷
-    made ss (left (resultOf s t) t)
+going-on : (s : Step) (t : State) → next s t .device ≡ onward (s .turn) (t .device)
+going-on s t = ap (λ (r : Reply). r .device) (reply-is s t)
 
-runs : (ss : List Step) (t : State) → Ran ss t (made ss t) (end ss t)
-unfolding Ran made end
-runs [] t = refl
-runs (s ∷ ss) t =
-    let answer = some-answer (callOf (s .turn) (t .device)) (lentTo s t) in
-    let rest = left (resultOf s t) t in
-    (answer, subst (λ (r : Result). Ran ss (left r t) (made ss rest) (end ss rest)) (sym answer) (runs ss rest))
+-- an answer that meets the contract of the code
+made : Step → State → Made
+made s t =
+    record { answer = answerOf (callOf (s .turn) (t .device)) (part.lengthsOf (callOf (s .turn) (t .device)) (lentTo s t)); lent = resultOf s t .lent }
+
+meets : (s : Step) (t : State) → madeOf (made s t) ≡ resultOf s t
+unfolding made
+meets s t = some-answer (callOf (s .turn) (t .device)) (lentTo s t)
 
 as-computed : (ss : List Step) (t : State)
     → (map replyIn (results ss t) ≡ replies (turnsOf ss) (t .device)) × (end ss t .device ≡ lastRecord (turnsOf ss) (t .device))
-unfolding results end replies lastRecord
-as-computed [] t = (refl, refl)
-as-computed (s ∷ ss) t =
-    let rest = as-computed ss (left (resultOf s t) t) in (
-      ap (λ (rs : List Reply). resultOf s t .reply ∷ rs) (rest .0) ∙
-          ap (λ (r : Reply). r ∷ replies (turnsOf ss) (r .device)) (reply-is s t),
-      rest .1 ∙ ap (λ (r : Reply). lastRecord (turnsOf ss) (r .device)) (reply-is s t),
-    )
+as-computed ss t = (
+  outputs-alike next onward deviceIn turnIn going-on replyIn resultOf replyTo reply-is ss t,
+  end-alike next onward deviceIn turnIn going-on ss t,
+)
+
+as-carried-out : (ss : List Step) (t : State) → end ss t .array ≡ applied (effects ss t) (t .array)
+unfolding applied
+as-carried-out ss t =
+    end-seen next carried (λ (t : State). t .array) effectIn array-is ss t ∙
+    ap (λ (os : List Operation). applied os (t .array)) (gathered-alike next onward deviceIn turnIn going-on effectIn effectOf (λ s t. refl) ss t)
 
 never-from-stored-bytes : (ss also : List Step) (t u : State) → turnsOf ss ≡ turnsOf also → t .device ≡ u .device
     → (map replyIn (results ss t) ≡ map replyIn (results also u)) × (end ss t .device ≡ end also u .device) × (effects ss t ≡ effects also u)
@@ -102,7 +86,7 @@ and-since-the-last-erase ss t k l =
 pub effects-joined : (ss also : List Step) (t : State) → effects (ss ++ also) t ≡ effects ss t ++ effects also (end ss t)
 effects-joined ss also t =
     ap (λ (ts : List Turn). operations ts (t .device)) (map-append (λ (s : Step). s .turn) ss also) ∙
-    (operations-joined (turnsOf ss) (turnsOf also) (t .device) ∙
+    (gathered-joined onward effectOf (turnsOf ss) (turnsOf also) (t .device) ∙
     ap (λ (d : Device). effects ss t ++ operations (turnsOf also) d) (sym (as-computed ss t .1)))
 
 -- A refused call in the middle of a series.
@@ -111,7 +95,7 @@ module _ (before after : List Step) (s : Step) (t : State) (n : replyTo (s .turn
   u = end before t
 
   no-effect : effects (s ∷ after) u ≡ effects after u
-  unfolding operations
+  unfolding run.gathered
   no-effect =
       ap (λ (os : List Operation). os ++ operations (turnsOf after) (replyTo (s .turn) (u .device) .device)) (refused-effect (s .turn) (u .device) n) ∙
       ap (λ (r : Reply). operations (turnsOf after) (r .device)) (refused-reply (s .turn) (u .device) n)
@@ -121,13 +105,12 @@ module _ (before after : List Step) (s : Step) (t : State) (n : replyTo (s .turn
       effects-joined before (s ∷ after) t ∙ (ap (λ (os : List Operation). effects before t ++ os) no-effect ∙ sym (effects-joined before after t))
 
   same-end : end (before ++ s ∷ after) t ≡ end (before ++ after) t
-  unfolding end
-  same-end = end-joined before (s ∷ after) t ∙ (ap (end after) (refused-left s u n) ∙ sym (end-joined before after t))
+  same-end = left-out next before after s t (refused-left s u n)
 
   own-result : results (before ++ s ∷ after) t ≡ results before t ++ asRefused s u ∷ results after u
-  unfolding results
+  unfolding run.gathered
   own-result =
-      results-joined before (s ∷ after) t ∙
+      gathered-joined next (run.one resultOf) before (s ∷ after) t ∙
       ap (λ (rs : List Result). results before t ++ rs)
       (ap (λ (r : Result). r ∷ results after (left (resultOf s u) u)) (refused-result s u n) ∙
       ap (λ (v : State). asRefused s u ∷ results after v) (refused-left s u n))
@@ -159,10 +142,10 @@ module _ (s : Step) (t : State) (code : getD (s .turn .input) 0 0 ≡ 0xF0) wher
 reset-takes-nothing-back : (before after : List Step) (s : Step) (t : State) → getD (s .turn .input) 0 0 ≡ 0xF0
     → (end (before ++ s ∷ []) t .array ≡ end before t .array) × (end (before ++ s ∷ []) t .register ≡ end before t .register)
     × (effects (before ++ s ∷ after) t ≡ effects before t ++ effects after (end (before ++ s ∷ []) t))
-unfolding operations end applied
+unfolding run.gathered run.end applied
 reset-takes-nothing-back before after s t code =
     let u = end before t in
-    let there : end (before ++ s ∷ []) t ≡ left (resultOf s u) u = end-joined before (s ∷ []) t in (
+    let there : end (before ++ s ∷ []) t ≡ left (resultOf s u) u = end-joined next before (s ∷ []) t in (
       ap (λ (v : State). v .array) there ∙ (array-is s u ∙ ap (λ (os : List Operation). applied os (u .array)) (reset-effect s u code)),
       ap (λ (v : State). v .register) there ∙ reset-register s u code,
       effects-joined before (s ∷ after) t ∙
@@ -172,7 +155,7 @@ reset-takes-nothing-back before after s t code =
     )
 
 reported : (t : Turn) (d : Device) → operations (t ∷ []) d ≢ [] → map (λ (r : Reply). r .outcome) (replies (t ∷ []) d) ≡ "begun" ∷ []
-unfolding operations replies
+unfolding run.gathered
 reported t d n = ap (λ (w : String). w ∷ []) (effect-begun t d (λ e. n (ap (λ (os : List Operation). os ++ []) e)))
 
 sound : (ts : List Turn) (d : Device) → unsound d ≡ false
@@ -182,14 +165,14 @@ sound ts d u = let s = sound-then (lastRecord ts d) (sound-series ts d u) in (s 
 pub promises : Promises
 promises =
     record {
-      one-after-the-other = λ t ts d c l e f. rw (e, f) (one-reply t ts d, one-record t ts d, one-operation t ts d);
-      frame-by-frame = λ s ss t c e. rw e (one-result s ss t, one-end s ss t);
-      call-by-call = λ s ss t u a rest c e r. rw e (one-run s ss t u a rest r);
+      one-after-the-other = λ t ts d c l e f. rw (e, f) (one-gathered onward (run.one replyTo) t ts d, one-end onward t ts d, one-gathered onward effectOf t ts d);
+      frame-by-frame = λ s ss t c e. rw e (one-gathered next (run.one resultOf) s ss t, one-end next s ss t);
+      call-by-call = λ s ss t u a rest c e r. rw e (one-ran resultOf left madeOf s ss t u a rest r);
       lent-whole =
           λ s t a b o. rw (lent-all (s .turn .array) (t .array) (s .behind .array) a, lent-all (s .turn .register) (t .register) (s .behind .register) b, lent-all (s .turn .output) (s .buffer) (s .behind .output) o);
       left-whole = λ r t a b. rw (returned-all (r .lent .array) (t .array) a, returned-all (r .lent .register) (t .register) b);
-      as-the-code-does = as-the-code-does;
-      can-be-run = λ ss t. (made ss t, runs ss t);
+      as-the-code-does = as-the-run resultOf left madeOf;
+      can-be-run = λ ss t. (_, run-of resultOf left madeOf made meets ss t);
       as-computed = as-computed;
       never-from-stored-bytes = never-from-stored-bytes;
       each-works = each-works;
@@ -200,7 +183,7 @@ promises =
       twice-is-once = operation-twice;
       refused-changes-nothing =
           λ before after s t n.
-          (same-operations before after s t n, same-end before after s t n, results-joined before after t, own-result before after s t n);
+          (same-operations before after s t n, same-end before after s t n, gathered-joined next (run.one resultOf) before after t, own-result before after s t n);
       reset-takes-nothing-back = reset-takes-nothing-back;
       stays-sound = sound;
     }

@@ -1,62 +1,33 @@
--- The laws of a series on memories: one step, two lists joined, and that a step on memories is the step that is computed from its turn.
+-- The laws of a series on memories: a step on memories is the step that is computed from its turn.
 -- Assumes nothing.
 use Prim.Native.Nat.{ℕ, _≤_}
 use mathlib.Core.Bool.{Bool, true, false, cond}
-use mathlib.Core.List.{List, [], _∷_, _++_}
+use mathlib.Core.List.{List, [], _∷_}
 use mathlib.Core.Logic.{_≢_}
 use mathlib.Core.Path.{_≡_, refl, ap, _∙_}
 use native.Mathlib.Omega.{arith}
 use borrow.Author.Tests.{eqb-true, ne-eqb}
 use lib.Dec.{eqb}
-use lib.ListN.{length}
 use Rattle.cells.specs.Each.{each}
-use Rattle.cells.proofs.Places.{length-each}
 use Rattle.opcodes.specs.Rows.{rowOf}
 use Rattle.sheet.specs.Begins.{asksFor}
 use Rattle.sheet.specs.declared.device.Device.{Device}
 use Rattle.memory.specs.Operations.{Operation, cellOf, onRegister}
-use Rattle.part.specs.Frame.{Call, Lent, Result, factsOf, judgedOf, numberFor, replied, frame}
+use Rattle.part.specs.Frame.{Call, Lent, factsOf, judgedOf, numberFor, replied, frame}
 use Rattle.part.specs.Frame as part
 use Rattle.part.specs.Effect.{takesEffect, operationOf}
 use Rattle.memory.proofs.Blocks.{operation-inside, once-inside}
 use Rattle.part.proofs.Effects.{only-then, then-always}
 use Rattle.series.specs.Turns.{Turn, callOf, lengthsOf, replyTo, effectOf}
-use Rattle.series.specs.Series.{Step, State, returned, lentTo, resultOf, left, results, end}
+use Rattle.series.specs.Series.{Step, State, returned, lentTo, resultOf, left}
 use Rattle.series.specs.Bytes.{applied}
 use Rattle.series.specs.Promises.{asRefused}
 use Rattle.series.proofs.Lending.{length-lent, returned-each, returned-same}
 use Rattle.series.proofs.Turns.{refusal-is, refused-reply, accepted-turn, effect-accepted}
 
--- one step
-pub one-result : (s : Step) (ss : List Step) (t : State) → results (s ∷ ss) t ≡ resultOf s t ∷ results ss (left (resultOf s t) t)
-unfolding results
-one-result s ss t = refl
-
-pub one-end : (s : Step) (ss : List Step) (t : State) → end (s ∷ ss) t ≡ end ss (left (resultOf s t) t)
-unfolding end
-one-end s ss t = refl
-
--- two lists joined: the second one starts with what the first one left
-pub results-joined : (ss also : List Step) (t : State) → results (ss ++ also) t ≡ results ss t ++ results also (end ss t)
-unfolding results end
-results-joined [] also t = refl
-results-joined (s ∷ ss) also t = ap (λ (rs : List Result). resultOf s t ∷ rs) (results-joined ss also (left (resultOf s t) t))
-
-pub end-joined : (ss also : List Step) (t : State) → end (ss ++ also) t ≡ end also (end ss t)
-unfolding end
-end-joined [] also t = refl
-end-joined (s ∷ ss) also t = end-joined ss also (left (resultOf s t) t)
-
 -- the operation on the register, if the call is accepted
 abbrev pub onceOf : Turn → Device → List Operation
 onceOf t d = cond (eqb (numberFor (callOf t d) (lengthsOf t)) 0) (onRegister (judgedOf (callOf t d) .action) (t .input) ∷ []) []
-
--- lengths stay
-pub lengths-kept : (ss : List Step) (t : State) → (length (end ss t .array) ≡ length (t .array)) × (length (end ss t .register) ≡ length (t .register))
-unfolding end
-lengths-kept [] t = (refl, refl)
-lengths-kept (s ∷ ss) t =
-    let rest = lengths-kept ss (left (resultOf s t) t) in (rest .0 ∙ length-each _ (t .array), rest .1 ∙ length-each _ (t .register))
 
 module _ (s : Step) (t : State) where
   abbrev c : Call

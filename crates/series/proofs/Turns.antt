@@ -1,13 +1,15 @@
--- The laws of a series as it is computed from its turns: one step, two lists joined, a refused turn, and the records that it returns.
+-- The laws of a series as it is computed from its turns: a refused turn, an effect, and the records that it returns.
 -- Assumes nothing.
 use Prim.Native.Nat.{ℕ}
 use mathlib.Core.Bool.{Bool, true, false, false≢true, cond, not, and-eq-true-iff}
-use mathlib.Core.List.{List, [], _∷_, _++_, append-assoc}
+use mathlib.Core.List.{List, [], _∷_, _++_}
 use mathlib.Core.Logic.{_≢_}
 use mathlib.Core.Path.{_≡_, refl, sym, ap, _∙_}
 use native.Mathlib.Decide.{ℕ-discrete}
 use borrow.Author.Tests.{eqb-true}
 use lib.Dec.{ltb, eqb}
+use Rattle.runs.specs.Run as run
+use Rattle.runs.proofs.Laws.{kept}
 use Rattle.opcodes.specs.declared.Command.{Command}
 use Rattle.opcodes.specs.declared.Command.the-variants.{Unlisted, Reads, Orders, Works}
 use Rattle.opcodes.specs.declared.Work.{Work}
@@ -25,39 +27,8 @@ use Rattle.part.specs.Words.{wordOf}
 use Rattle.part.proofs.Answers as answers
 use Rattle.part.specs.Frame.{Call, Reply, numberFor, timed, risen, factsOf, judgedOf, answered, refused, replied}
 use Rattle.part.specs.Effect.{takesEffect, operationOf}
-use Rattle.series.specs.Turns.{Turn, callOf, lengthsOf, replyTo, effectOf, replies, operations, lastRecord}
+use Rattle.series.specs.Turns.{Turn, callOf, lengthsOf, replyTo, effectOf, onward, operations, lastRecord}
 use Rattle.series.specs.Bytes.{works, allWork}
-
--- one step
-pub one-reply : (t : Turn) (ts : List Turn) (d : Device) → replies (t ∷ ts) d ≡ replyTo t d ∷ replies ts (replyTo t d .device)
-unfolding replies
-one-reply t ts d = refl
-
-pub one-operation : (t : Turn) (ts : List Turn) (d : Device) → operations (t ∷ ts) d ≡ effectOf t d ++ operations ts (replyTo t d .device)
-unfolding operations
-one-operation t ts d = refl
-
-pub one-record : (t : Turn) (ts : List Turn) (d : Device) → lastRecord (t ∷ ts) d ≡ lastRecord ts (replyTo t d .device)
-unfolding lastRecord
-one-record t ts d = refl
-
--- two lists joined: the second one starts with the record that the first one left
-pub replies-joined : (ts us : List Turn) (d : Device) → replies (ts ++ us) d ≡ replies ts d ++ replies us (lastRecord ts d)
-unfolding replies lastRecord
-replies-joined [] us d = refl
-replies-joined (t ∷ ts) us d = ap (λ (rs : List Reply). replyTo t d ∷ rs) (replies-joined ts us (replyTo t d .device))
-
-pub operations-joined : (ts us : List Turn) (d : Device) → operations (ts ++ us) d ≡ operations ts d ++ operations us (lastRecord ts d)
-unfolding operations lastRecord
-operations-joined [] us d = refl
-operations-joined (t ∷ ts) us d =
-    ap (λ (os : List Operation). effectOf t d ++ os) (operations-joined ts us (replyTo t d .device)) ∙
-    sym (append-assoc (effectOf t d) (operations ts (replyTo t d .device)) (operations us (lastRecord ts (replyTo t d .device))))
-
-pub record-joined : (ts us : List Turn) (d : Device) → lastRecord (ts ++ us) d ≡ lastRecord us (lastRecord ts d)
-unfolding lastRecord
-record-joined [] us d = refl
-record-joined (t ∷ ts) us d = record-joined ts us (replyTo t d .device)
 
 -- what an opcode for the array asks for is a program or an erase
 asked-works : (c : Command) (size : ℕ) (input : List ℕ) → meansArray c ≡ true → works (onArray (asksFor c) size input) ≡ true
@@ -155,9 +126,7 @@ module _ (t : Turn) (d : Device) where
 
 -- and so does a series
 pub sound-series : (ts : List Turn) (d : Device) → unsound d ≡ false → unsound (lastRecord ts d) ≡ false
-unfolding lastRecord
-sound-series [] d u = u
-sound-series (t ∷ ts) d u = sound-series ts (replyTo t d .device) (sound-turn t d u)
+sound-series = kept onward (λ (d : Device). unsound d ≡ false) sound-turn
 
 works-joined : (os ps : List Operation) → allWork os ≡ true → allWork ps ≡ true → allWork (os ++ ps) ≡ true
 unfolding allWork
@@ -167,6 +136,6 @@ works-joined (o ∷ os) ps e f =
     rw (w .0) (works-joined os ps (w .1) f)
 
 pub each-works : (ts : List Turn) (d : Device) → allWork (operations ts d) ≡ true
-unfolding operations allWork
+unfolding run.gathered allWork
 each-works [] d = refl
 each-works (t ∷ ts) d = works-joined (effectOf t d) (operations ts (replyTo t d .device)) (effect-works t d) (each-works ts (replyTo t d .device))

@@ -4,15 +4,19 @@ use mathlib.Core.Bool.{Bool, true, false, cond, _&&_, _||_}
 use mathlib.Core.List.{List, [], _∷_, _++_}
 use lib.Bits.{bitAnd}
 use lib.ListN.{length}
+use Rattle.runs.specs.Run as run
 use Rattle.cells.specs.Each.{each}
 use Rattle.cells.specs.Page.{aimedAt, last}
 use Rattle.cells.specs.Range.{range}
 use Rattle.memory.specs.Operations.{Operation, none, program, erase, cellOf}
 
 -- the operations carried out, one after the other
+abbrev pub carried : Operation → List ℕ → List ℕ
+carried o xs = each (cellOf o) xs
+
 unfoldable pub applied : List Operation → List ℕ → List ℕ
-applied [] xs = xs
-applied (o ∷ os) xs = applied os (each (cellOf o) xs)
+unfolding run.end
+applied os xs = run.end carried os xs
 
 -- an erase that covers the place
 abbrev pub erases : Operation → ℕ → Bool
@@ -43,8 +47,8 @@ bytesAt (o ∷ os) k = byteOf o k ++ bytesAt os k
 
 -- the AND of a byte and of all in a list
 unfoldable pub andAll : ℕ → List ℕ → ℕ
-andAll x [] = x
-andAll x (b ∷ bs) = andAll (bitAnd x b) bs
+unfolding run.end
+andAll x bs = run.end (λ b x. bitAnd x b) bs x
 
 -- what the place starts from: FFh if an erase covered it, else its first content
 abbrev pub startAt : List Operation → ℕ → ℕ → ℕ

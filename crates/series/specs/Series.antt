@@ -1,13 +1,13 @@
 -- The same series on memories: it folds the definition of one frame. Assumes nothing.
 use Prim.Native.Nat.{ℕ}
-use mathlib.Core.List.{List, [], _∷_, map}
-use mathlib.Core.Path.{_≡_}
+use mathlib.Core.List.{List, map}
 use lib.ListN.{length, getD, replicate}
+use Rattle.runs.specs.Run as run
 use Rattle.cells.specs.Each.{each, stored}
 use Rattle.cells.specs.Range.{range}
 use Rattle.sheet.specs.declared.device.Device.{Device}
 use Rattle.part.specs.declared.frame.Answer.{Answer}
-use Rattle.part.specs.Frame.{Lent, Result, Meets, lent, frame}
+use Rattle.part.specs.Frame.{Lent, Result, lent, frame}
 use Rattle.part.specs.Frame as part
 use Rattle.series.specs.Turns.{Turn, callOf}
 
@@ -58,14 +58,15 @@ left r t =
       register = returned (r .lent .register) (t .register);
     }
 
--- the results of a series, in order, and what stands at its end
-unfoldable pub results : List Step → State → List Result
-results [] t = []
-results (s ∷ ss) t = resultOf s t ∷ results ss (left (resultOf s t) t)
+abbrev pub next : Step → State → State
+next s t = left (resultOf s t) t
 
-unfoldable pub end : List Step → State → State
-end [] t = t
-end (s ∷ ss) t = end ss (left (resultOf s t) t)
+-- the results of a series, in order, and what stands at its end
+abbrev pub results : List Step → State → List Result
+results ss t = run.outputs next resultOf ss t
+
+abbrev pub end : List Step → State → State
+end ss t = run.end next ss t
 
 -- A call as the code made it: its answer, and what it left of the memories that it was lent.
 pub record Made : Type 0 where
@@ -77,8 +78,5 @@ madeOf c = part.resultOf (c .answer) (c .lent)
 
 -- The code ran the series and left the last state: each call meets the contract of `part::frame::frame` with the record that the call
 -- before it returned and the memories that it left.
-unfoldable pub Ran : List Step → State → List Made → State → Type 0
-Ran [] t [] u = t ≡ u
-Ran [] t (c ∷ cs) u = ⊥
-Ran (s ∷ ss) t [] u = ⊥
-Ran (s ∷ ss) t (c ∷ cs) u = Meets (callOf (s .turn) (t .device)) (lentTo s t) (c .answer) (c .lent) × Ran ss (left (madeOf c) t) cs u
+abbrev pub Ran : List Step → State → List Made → State → Type 0
+Ran ss t cs u = run.Ran resultOf left madeOf ss t cs u

@@ -3,8 +3,9 @@
 -- is lent; no type here has a place for a byte that is stored. Assumes nothing.
 use Prim.Native.Nat.{ℕ}
 use mathlib.Core.Bool.{cond}
-use mathlib.Core.List.{List, [], _∷_, _++_}
+use mathlib.Core.List.{List, [], _∷_}
 use lib.ListN.{length}
+use Rattle.runs.specs.Run as run
 use Rattle.sheet.specs.declared.device.Device.{Device}
 use Rattle.settings.specs.declared.Settings.{Settings}
 use Rattle.lent.specs.declared.refusal.Lengths.{Lengths}
@@ -37,17 +38,18 @@ replyTo t d = replied (callOf t d) (lengthsOf t)
 abbrev pub effectOf : Turn → Device → List Operation
 effectOf t d = cond (takesEffect (callOf t d) (lengthsOf t)) (operationOf (callOf t d) (lengthsOf t) ∷ []) []
 
+-- and the record that goes on to the next call
+abbrev pub onward : Turn → Device → Device
+onward t d = replyTo t d .device
+
 -- each call's answer, in order
-unfoldable pub replies : List Turn → Device → List Reply
-replies [] d = []
-replies (t ∷ ts) d = replyTo t d ∷ replies ts (replyTo t d .device)
+abbrev pub replies : List Turn → Device → List Reply
+replies ts d = run.outputs onward replyTo ts d
 
 -- the operations that took effect, in order
-unfoldable pub operations : List Turn → Device → List Operation
-operations [] d = []
-operations (t ∷ ts) d = effectOf t d ++ operations ts (replyTo t d .device)
+abbrev pub operations : List Turn → Device → List Operation
+operations ts d = run.gathered onward effectOf ts d
 
 -- the last record
-unfoldable pub lastRecord : List Turn → Device → Device
-lastRecord [] d = d
-lastRecord (t ∷ ts) d = lastRecord ts (replyTo t d .device)
+abbrev pub lastRecord : List Turn → Device → Device
+lastRecord ts d = run.end onward ts d

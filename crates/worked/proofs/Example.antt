@@ -6,6 +6,7 @@ use mathlib.Core.Logic.{_≢_}
 use mathlib.Core.Path.{_≡_, refl, sym, ap, _∙_}
 use native.Mathlib.Omega.{arith}
 use lib.ListN.{getD, take}
+use Rattle.runs.specs.Run as run
 use Rattle.cells.specs.Each.{over}
 use Rattle.cells.specs.Page.{covered, last}
 use Rattle.cells.proofs.Places.{getD-each}
@@ -15,7 +16,7 @@ use Rattle.settings.specs.Settings.{anyUnfair}
 use Rattle.lent.specs.Refusal.{refusalOf}
 use Rattle.memory.specs.Operations.{Operation}
 use Rattle.part.specs.Frame.{Reply, Result, judgedOf, numberFor, replied}
-use Rattle.series.specs.Turns.{replies, operations}
+use Rattle.series.specs.Turns.{replies}
 use Rattle.series.specs.Series.{Step, State, Made, turnsOf, results, end, Ran}
 use Rattle.series.specs.Bytes.{applied, erasedIn, since, bytesAt}
 use Rattle.series.specs.Promises.{effects}
@@ -39,7 +40,7 @@ byte : (ss : List Step) (k : ℕ) → k < 131072 → getD (end ss begins .array)
 byte ss k l = ap (λ (xs : List ℕ). getD xs k 0) (promises .as-carried-out ss begins) ∙ byte-after (effects ss begins) k l
 
 pub example : Example
-unfolding replies operations replied numberFor refusalOf anyUnfair judgedOf judged byOpcode rowOf rows lookup through over covered last erasedIn since bytesAt
+unfolding run.gathered replied numberFor refusalOf anyUnfair judgedOf judged byOpcode rowOf rows lookup through over covered last erasedIn since bytesAt
 example =
     record {
       refusals = told (λ (r : Reply). r .refusal);
@@ -58,7 +59,7 @@ differs u xs k x y e a b n same =
     n (sym a ∙ (ap (λ (t : State). getD (t .array) k 0) (sym e) ∙ (ap (λ (ys : List ℕ). getD ys k 0) same ∙ b)))
 
 pub shut-out : (u : State) (cs : List Made) → Ran steps begins cs u → ShutOut u
-unfolding replies operations replied numberFor refusalOf anyUnfair judgedOf judged byOpcode rowOf rows lookup through over covered last
+unfolding run.gathered replied numberFor refusalOf anyUnfair judgedOf judged byOpcode rowOf rows lookup through over covered last
 shut-out u cs r =
     let e = promises .as-the-code-does steps begins u cs r .1 in
     record {

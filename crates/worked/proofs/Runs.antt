@@ -6,6 +6,8 @@ use mathlib.Core.List.{List, [], _∷_, map}
 use mathlib.Core.Path.{_≡_, refl, sym, ap, _∙_}
 use lib.Dec.{eqb}
 use lib.ListN.{length}
+use Rattle.runs.specs.Run as run
+use Rattle.runs.proofs.Laws.{end-forgets, kept}
 use Rattle.cells.specs.Each.{each, stored}
 use Rattle.cells.specs.Range.{range}
 use Rattle.sheet.specs.declared.device.Device.{Device}
@@ -13,6 +15,7 @@ use Rattle.output.specs.Output.{Store, readAt}
 use Rattle.part.specs.Frame.{Call, Lent, lent, standsAt, judgedOf, numberFor, frame}
 use Rattle.part.specs.Frame as part
 use Rattle.series.specs.Turns.{callOf, lengthsOf, replyTo, effectOf}
+use Rattle.series.specs.Series as series
 use Rattle.series.specs.Series.{Step, State, lentTo, resultOf, left, results, end}
 use Rattle.series.proofs.Lending.{lent-all}
 use Rattle.series.proofs.Steps.{same-lengths, reply-is, array-is, onceOf, register-is}
@@ -59,13 +62,11 @@ next s t =
       register = more (onceOf (s .turn) (t .device)) (t .register);
     }
 
-unfoldable pub allTold : List Step → Scene → List Came
-allTold [] t = []
-allTold (s ∷ ss) t = cameTold s t ∷ allTold ss (next s t)
+abbrev pub allTold : List Step → Scene → List Came
+allTold ss t = run.outputs next cameTold ss t
 
-unfoldable pub endTold : List Step → Scene → Scene
-endTold [] t = t
-endTold (s ∷ ss) t = endTold ss (next s t)
+abbrev pub endTold : List Step → Scene → Scene
+endTold ss t = run.end next ss t
 
 -- what the step leaves
 left-told : (s : Step) (t : Scene) → left (resultOf s (stateOf t)) (stateOf t) ≡ stateOf (next s t)
@@ -111,18 +112,15 @@ AllWhole size other (s ∷ ss) = Whole size other s × AllWhole size other ss
 
 pub all-told : (ss : List Step) (t : Scene) → 0 < t .array .plain .size → 0 < t .register .plain .size
     → AllWhole (t .array .plain .size) (t .register .plain .size) ss → map cameOf (results ss (stateOf t)) ≡ allTold ss t
-unfolding results allTold next AllWhole
+unfolding run.gathered next AllWhole
 all-told [] t has holds whole = refl
 all-told (s ∷ ss) t has holds whole =
     rw (came-told s t has holds (whole .0), left-told s t) (ap (λ (cs : List Came). cameTold s t ∷ cs) (all-told ss (next s t) has holds (whole .1)))
 
 pub end-told : (ss : List Step) (t : Scene) → end ss (stateOf t) ≡ stateOf (endTold ss t)
-unfolding end endTold
-end-told [] t = refl
-end-told (s ∷ ss) t = rw (left-told s t) (end-told ss (next s t))
+end-told ss t = sym (end-forgets next series.next stateOf (λ s t. sym (left-told s t)) ss t)
 
 -- what the memories held at first stays
 pub end-plain : (ss : List Step) (t : Scene) → (endTold ss t .array .plain ≡ t .array .plain) × (endTold ss t .register .plain ≡ t .register .plain)
-unfolding endTold next
-end-plain [] t = (refl, refl)
-end-plain (s ∷ ss) t = end-plain ss (next s t)
+unfolding next
+end-plain ss t = kept next (λ (u : Scene). (u .array .plain ≡ t .array .plain) × (u .register .plain ≡ t .register .plain)) (λ s u p. p) ss t (refl, refl)

@@ -8,6 +8,7 @@ use native.Mathlib.Omega.{arith}
 use borrow.Author.Tests.{leb-true}
 use lib.Dec.{leb}
 use lib.ListN.{length, getD, length-replicate}
+use Rattle.runs.specs.Run as run
 use Rattle.cells.specs.Each.{each, eachFrom, over}
 use Rattle.cells.specs.Page.{covered, last}
 use Rattle.opcodes.specs.Rows.{rowOf, rows, lookup}
@@ -93,18 +94,18 @@ each-holds (r ∷ rs) e f =
 
 -- the table: P1 to P10, the session and the limits, each reply, record and byte as the row says
 pub worked-table : EachWorked table
-unfolding table repliesOf wantedOf fitting allFitting agrees everywhere halved steadyOperations steadyPieces steadyFor one-side apart inside through painted allTold endTold cameTold next replied numberFor
+unfolding table repliesOf wantedOf fitting allFitting agrees everywhere halved steadyOperations steadyPieces steadyFor one-side apart inside through painted run.end run.gathered cameTold next replied numberFor
     refusalOf anyUnfair judgedOf judged byOpcode rowOf rows lookup readAt each eachFrom over covered last
 worked-table = each-holds table refl refl
 
 -- and the rows beyond it
 pub worked-further : EachWorked further
-unfolding further repliesOf wantedOf fitting allFitting agrees everywhere halved steadyOperations steadyPieces steadyFor one-side apart inside through painted allTold endTold cameTold next replied numberFor
+unfolding further repliesOf wantedOf fitting allFitting agrees everywhere halved steadyOperations steadyPieces steadyFor one-side apart inside through painted run.end run.gathered cameTold next replied numberFor
     refusalOf anyUnfair judgedOf judged byOpcode rowOf rows lookup readAt each eachFrom over covered last
 worked-further = each-holds further refl refl
 
 -- and those of frames that take time
 pub worked-polls : EachWorked polls
-unfolding polls repliesOf wantedOf fitting allFitting agrees everywhere halved steadyOperations steadyPieces steadyFor one-side apart inside through painted allTold endTold cameTold next replied numberFor
+unfolding polls repliesOf wantedOf fitting allFitting agrees everywhere halved steadyOperations steadyPieces steadyFor one-side apart inside through painted run.end run.gathered cameTold next replied numberFor
     refusalOf anyUnfair judgedOf judged byOpcode rowOf rows lookup readAt each eachFrom over covered last
 worked-polls = each-holds polls refl refl
