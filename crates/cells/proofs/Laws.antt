@@ -10,7 +10,6 @@ use lib.Arith.{bin-ind}
 use lib.Bits.{bitAnd, and-step, and-comm, and-self}
 use lib.ListN.{getD}
 use Rattle.cells.specs.Each.{Cell, each, over, stored, anded}
-use Rattle.cells.specs.Page.{programmed}
 use Rattle.cells.specs.Range.{range, erased}
 use Rattle.cells.proofs.Places.{each-then, over-in, over-out}
 
@@ -71,16 +70,7 @@ pub undone : (covers : ℕ → Bool) (value : ℕ → ℕ) (f : Cell) (xs : List
     → each (stored covers value) (each f xs) ≡ each (stored covers value) xs
 undone covers value f xs h = after covers (λ k x. value k) f xs (λ k x p. refl) h
 
--- The same of the operations by name, for pages of any size at any place.
-pub programs-commute : (size page start : ℕ) (sent : List ℕ) (size′ page′ start′ : ℕ) (sent′ xs : List ℕ)
-    → each (programmed size page start sent) (each (programmed size′ page′ start′ sent′) xs)
-    ≡ each (programmed size′ page′ start′ sent′) (each (programmed size page start sent) xs)
-programs-commute size page start sent size′ page′ start′ sent′ xs = anded-commute _ _ _ _ xs
-
-pub program-twice : (size page start : ℕ) (sent xs : List ℕ)
-    → each (programmed size page start sent) (each (programmed size page start sent) xs) ≡ each (programmed size page start sent) xs
-program-twice size page start sent xs = anded-twice _ _ xs
-
+-- the same of an erase by name
 pub erase-twice : (from to : ℕ) (xs : List ℕ) → each (erased from to) (each (erased from to) xs) ≡ each (erased from to) xs
 erase-twice from to xs = stored-twice _ _ xs
 

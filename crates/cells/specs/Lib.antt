@@ -1,3 +1,2 @@
 pub mod Each
 pub mod Range
-pub mod Page

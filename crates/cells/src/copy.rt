@@ -1,5 +1,5 @@
 // Copying out of a memory, in straight runs.
-use crate::lesser;
+use numbers::lesser;
 ghost use mathlib.Core.Path.{_≡_};
 ghost use Prim.Native.Nat.{_+_, _-_, _≤_, _<_};
 ghost use lib.ListN.{length};

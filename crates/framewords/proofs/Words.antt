@@ -6,9 +6,9 @@ use mathlib.Core.Path.{_≡_, ap}
 use borrow.Author.Tests.{eqb-true}
 use lib.ListN.{length}
 use Rattle.settings.specs.declared.Settings.{Settings}
-use Rattle.sheet.specs.declared.device.Device.{Device}
-use Rattle.input.specs.declared.Signals.{Signals}
-use Rattle.part.specs.declared.frame.Answer.{Answer}
+use Rattle.device.specs.declared.Device.{Device}
+use Rattle.calls.specs.declared.Signals.{Signals}
+use Rattle.part.specs.declared.Answer.{Answer}
 use Rattle.part.specs.Frame.{Lent, call, frame, replyOf, Meets}
 use Rattle.packing.specs.Packing.{packed, isRecord, deviceOf, isSettings, settingsOf, isSignals, signalsOf, isAnswer, answerOf}
 use Rattle.packing.proofs.Records.{record-right}

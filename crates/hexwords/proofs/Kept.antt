@@ -8,7 +8,7 @@ use native.Mathlib.Omega.{arith}
 use borrow.Author.Tests.{eq-eqb, ne-eqb}
 use lib.Dec.{eqb}
 use lib.ListN.{length, set}
-use Rattle.ihex.proofs.Refused.{refused-output, refused-array}
+use Rattle.ihex_promises.proofs.Refused.{refused-output, refused-array}
 use Rattle.hexwords.specs.Words.{Spoken, spoken, answered, textOut, textIn}
 
 -- a single word, stored

@@ -15,7 +15,8 @@ pub fn write_text(array: &[u8], text: &mut [u8], characters: &mut [u64]) -> u64
     if characters.len() == 1 {
         let written = ihex_write::write(array, text);
         characters[0] = written.characters as u64;
-        return wide(written.refusal);
+        let refusal = written.refusal;
+        return wide(refusal.number());
     }
     UNREAD
 }
@@ -30,7 +31,8 @@ pub fn read_text(text: &[u8], array: &mut [u8], place: &mut [u64]) -> u64
     if place.len() == 1 {
         let reading = ihex_read::read(text, array);
         place[0] = reading.place as u64;
-        return wide(reading.refusal);
+        let refusal = reading.refusal;
+        return wide(refusal.number());
     }
     UNREAD
 }

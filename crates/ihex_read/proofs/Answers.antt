@@ -5,7 +5,7 @@ use mathlib.Core.List.{List}
 use mathlib.Core.Path.{_≡_}
 use borrow.Author.Tests.{eq-eqb, ne-eqb}
 use lib.ListN.{length}
-use Rattle.sizes.specs.Sizes.{isArray}
+use Rattle.memories.specs.Sizes.{isArray}
 use Rattle.ihex_read.specs.Reader.{linesIn, placeOf, carried, reading, judgedIn, readingOf, arrayOf}
 
 -- a size that is not allowed

@@ -6,7 +6,7 @@ use mathlib.Core.Path.{_≡_, refl}
 use native.Mathlib.Omega.{arith}
 use borrow.Author.Tests.{ltb-false, eqb-true, eq-eqb, ne-eqb, not-false}
 use lib.Dec.{eqb, ltb}
-use Rattle.ihex_write.specs.Layout.{lengthOf, addressOf, kindOf, asked, sumOf}
+use Rattle.ihex_layout.specs.Layout.{lengthOf, addressOf, kindOf, asked, sumOf}
 use Rattle.ihex_read.specs.Reader.{isWhole, malformed, wrongSum, otherKind, startOf, outside, faultOf}
 
 -- the judgement of a whole line with length n, type k, sum t and address a

@@ -9,7 +9,7 @@ use native.Mathlib.Omega.{arith}
 use lib.Dec.{eqb}
 use lib.ListN.{length, getD, drop, drop-of-length-le, List·getD-eq-default}
 use lib.Seq.{drop-cons, drop-drop, getD-drop}
-use Rattle.ihex_write.specs.Layout.{LF, CR}
+use Rattle.ihex_layout.specs.Layout.{LF, CR}
 use Rattle.ihex_read.specs.Reader.{headed, behind, linesIn, first, lineAt, isEnd, placeOf}
 
 -- What stands at a place: the end of the text, one character, or more.

@@ -8,7 +8,7 @@ use borrow.Author.Tests.{lt-ltb, le-ltb}
 use lib.Dec.{ltb}
 use Rattle.cells.specs.Range.{range}
 use Rattle.cells.proofs.Runs.{range-of}
-use Rattle.ihex_write.specs.Layout.{digitOf}
+use Rattle.ihex_layout.specs.Layout.{digitOf}
 
 -- a character is a digit, and then this is its number, or it is none
 record Digit (c : ℕ) : Type 0 where

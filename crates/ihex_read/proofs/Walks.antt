@@ -10,9 +10,8 @@ use lib.Dec.{eqb, ltb}
 use lib.ListN.{length, drop, length-drop, drop-of-length-le}
 use Rattle.cells.specs.Each.{each}
 use Rattle.cells.proofs.Places.{length-each}
-use Rattle.ihex_write.specs.Layout.{kindOf}
-use Rattle.ihex_read.specs.declared.Reading.{Reading}
-use Rattle.ihex_read.specs.Reader.{linesIn, lineAt, placeOf, faultOf, upperBehind, Verdict, verdict, ended, judged, startOf, laid, obeyed, carried, reading, judgedIn}
+use Rattle.ihex_layout.specs.Layout.{kindOf}
+use Rattle.ihex_read.specs.Reader.{Told, linesIn, lineAt, placeOf, faultOf, upperBehind, Verdict, verdict, ended, judged, startOf, laid, obeyed, carried, reading, judgedIn}
 use Rattle.ihex_read.proofs.Lines.{lines-at, place-long, place-next, place-some}
 
 -- the walk has come to a line that begins at `at`; what is judged from there on decides
@@ -28,7 +27,7 @@ unfolding placeOf
 sets-out text size = record { line = 0; inside = omega arith; small = omega arith; place = refl; same = refl }
 
 -- the judgement of a text, with the place of its line
-abbrev answer : List ℕ → ℕ → Reading
+abbrev answer : List ℕ → ℕ → Told
 answer text size = reading (judgedIn text size .refusal) (placeOf (judgedIn text size .line) text)
 
 answers : (text : List ℕ) (size n k p : ℕ) → judgedIn text size ≡ verdict n k → placeOf k text ≡ p → reading n p ≡ answer text size

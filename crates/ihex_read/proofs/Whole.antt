@@ -10,7 +10,7 @@ use borrow.Author.Tests.{ltb-true, ltb-false, eqb-true, eq-eqb, ne-eqb}
 use lib.Dec.{eqb, ltb}
 use lib.ListN.{length, getD, drop, length-drop, List·getD-eq-default}
 use lib.Seq.{getD-drop, drop-drop}
-use Rattle.ihex_write.specs.Layout.{colon, LF, CR, digitOf, byteAt, lengthOf, asked, sumOf}
+use Rattle.ihex_layout.specs.Layout.{colon, LF, CR, digitOf, byteAt, lengthOf, asked, sumOf}
 use Rattle.ihex_read.specs.Reader.{linesIn, first, lineAt, isEnd, placeOf, pairs, isWhole}
 use Rattle.ihex_read.proofs.Lines.{first-long, first-reads, first-ends, first-is, place-first}
 

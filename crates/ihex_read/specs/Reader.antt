@@ -6,9 +6,10 @@ use lib.Dec.{ltb, eqb}
 use lib.ListN.{length, getD, drop}
 use Rattle.cells.specs.Each.{Cell, each, stored}
 use Rattle.cells.specs.Range.{range}
-use Rattle.sizes.specs.Sizes.{isArray}
+use Rattle.memories.specs.Sizes.{isArray}
+use Rattle.refusals.specs.Refusals.{numberOf}
 use Rattle.ihex_read.specs.declared.Reading.{Reading}
-use Rattle.ihex_write.specs.Layout.{colon, LF, CR, byteAt, lengthOf, addressOf, kindOf, dataAt, asked, sumOf}
+use Rattle.ihex_layout.specs.Layout.{colon, LF, CR, byteAt, lengthOf, addressOf, kindOf, dataAt, asked, sumOf}
 
 -- one character more at the front of the first line
 abbrev pub headed : ℕ → List (List ℕ) → List (List ℕ)
@@ -107,15 +108,24 @@ unfoldable pub carried : ℕ → List (List ℕ) → List ℕ → List ℕ
 carried upper [] array = array
 carried upper (line ∷ lines) array = carried (upperBehind upper line) lines (obeyed upper line array)
 
-abbrev pub reading : ℕ → ℕ → Reading
+-- what comes back, by the papers' number
+pub record Told : Type 0 where
+  pub refusal : ℕ
+  pub place : ℕ
+
+abbrev pub reading : ℕ → ℕ → Told
 reading refusal place = record { refusal = refusal; place = place }
+
+-- an answer of the code
+abbrev pub told : Reading → Told
+told r = reading (numberOf (r .refusal)) (r .place)
 
 -- the judgement of a whole text, the upper part 0 at first
 abbrev pub judgedIn : List ℕ → ℕ → Verdict
 judgedIn text size = judged size 0 0 (linesIn text)
 
 -- the answer: the refusal, and the place where the faulty record begins; 18 before all others
-unfoldable pub readingOf : List ℕ → ℕ → Reading
+unfoldable pub readingOf : List ℕ → ℕ → Told
 readingOf text size = cond (not (isArray size)) (reading 18 0) (reading (judgedIn text size .refusal) (placeOf (judgedIn text size .line) text))
 
 -- the lent array afterwards

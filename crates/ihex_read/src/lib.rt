@@ -1,13 +1,15 @@
 // The reader of Intel HEX: text is laid into an array. A first walk over the records judges them all; only then a second one writes.
-// Nothing is required of a caller; what is wrong is refused with its number.
-use sizes::is_array;
+// Nothing is required of a caller; what is wrong is refused.
+use memories::is_array;
+use refusals::Refusal;
 ghost use mathlib.Core.Bool.{true, false, cond};
 ghost use mathlib.Core.Path.{_≡_};
 ghost use Prim.Native.Nat.{_+_, _*_, _<_, _≤_};
 ghost use lib.Dec.{ltb};
 ghost use lib.ListN.{length, drop};
 ghost use Rattle.cells.specs.Each.{each};
-ghost use Rattle.ihex_write.specs.Layout.{digitOf, byteAt, lengthOf, asked, sumOf};
+ghost use Rattle.refusals.specs.Refusals.{numberOf};
+ghost use Rattle.ihex_layout.specs.Layout.{digitOf, byteAt, lengthOf, asked, sumOf};
 ghost use Rattle.ihex_read.specs.Reader.{
   linesIn,
   lineAt,
@@ -23,14 +25,15 @@ ghost use Rattle.ihex_read.specs.Reader.{
   obeyed,
   carried,
   reading,
+  told,
   readingOf,
   arrayOf,
 };
 
-// The number of the refusal, 0 if there is none, and the place of the character at which the faulty record begins: for text behind the
-// end record the first character there, for a missing end record the end of the text.
+// The refusal, if there is one, and the place of the character at which the faulty record begins: for text after the end record the first
+// character there, for a missing end record the end of the text.
 pub struct Reading {
-    pub refusal: u8,
+    pub refusal: Refusal,
     pub place: usize,
 }
 
@@ -137,32 +140,32 @@ fn record_at(text: &[u8], at: usize) -> Found
     }
 }
 
-// Why the line that begins at `at` is refused; 0 if it is not.
-fn fault_of(text: &[u8], at: usize, upper: usize, size: usize) -> u8
+// Why the line that begins at `at` is refused, or that it is not.
+fn fault_of(text: &[u8], at: usize, upper: usize, size: usize) -> Refusal
     requires { ⌜ (at < length (now text)) × (upper < 65536) ⌝ }
-    ensures { λ r. ⌜ r ≡ faultOf size upper (lineAt (now (text .entry)) at) ⌝ }
+    ensures { λ r. ⌜ numberOf r ≡ faultOf size upper (lineAt (now (text .entry)) at) ⌝ }
 {
     let found = record_at(text, at);
     if !found.whole {
-        return 12;
+        return Refusal::HexRecord;
     }
     let length = byte_at(text, at, 0);
     let kind = byte_at(text, at, 3);
     if ((kind == 1) & (length != 0)) | ((kind == 4) & (length != 2)) {
-        return 12;
+        return Refusal::HexRecord;
     }
     if found.total % 256 != 0 {
-        return 13;
+        return Refusal::HexChecksum;
     }
     if !((kind == 0) | (kind == 1) | (kind == 4)) {
-        return 14;
+        return Refusal::HexType;
     }
     let address = byte_at(text, at, 1) * 256 + byte_at(text, at, 2);
     let past = (65536 < address + length) | (size < upper * 65536 + address + length);
     if (kind == 0) & (length != 0) & past {
-        return 15;
+        return Refusal::HexOutside;
     }
-    0
+    Refusal::Accepted
 }
 
 // Where the line behind a whole one begins.
@@ -193,16 +196,16 @@ fn upper_behind(text: &[u8], at: usize, upper: usize) -> usize
 // What is said of a text whose end record ends at `at`.
 fn end_at(text: &[u8], at: usize) -> Reading
     requires { ⌜ at ≤ length (now text) ⌝ }
-    ensures { λ r. ⌜ r ≡ cond (ltb at (length (now (text .entry)))) (reading 16 at) (reading 0 0) ⌝ }
+    ensures { λ r. ⌜ told r ≡ cond (ltb at (length (now (text .entry)))) (reading 16 at) (reading 0 0) ⌝ }
 {
     if at < text.len() {
         return Reading {
-            refusal: 16,
+            refusal: Refusal::HexEnd,
             place: at,
         };
     }
     Reading {
-        refusal: 0,
+        refusal: Refusal::Accepted,
         place: 0,
     }
 }
@@ -210,14 +213,14 @@ fn end_at(text: &[u8], at: usize) -> Reading
 // The first walk: the first faulty record decides.
 fn judge(text: &[u8], size: usize) -> Reading
     ensures { λ r. ⌜
-        r ≡ reading (judgedIn (now (text .entry)) size .refusal) (placeOf (judgedIn (now (text .entry)) size .line) (now (text .entry)))
+        told r ≡ reading (judgedIn (now (text .entry)) size .refusal) (placeOf (judgedIn (now (text .entry)) size .line) (now (text .entry)))
         ⌝ }
 {
     let mut at = 0;
     let mut upper = 0;
     while at < text.len() {
         let fault = fault_of(text, at, upper, size);
-        if fault != 0 {
+        if fault.number() != 0 {
             return Reading {
                 refusal: fault,
                 place: at,
@@ -231,7 +234,7 @@ fn judge(text: &[u8], size: usize) -> Reading
         at = next;
     }
     Reading {
-        refusal: 16,
+        refusal: Refusal::HexEnd,
         place: at,
     }
 }
@@ -283,17 +286,18 @@ fn carry_out(array: &mut [u8], text: &[u8])
 
 // Reads the text into the array: later records win, bytes not named stay; refused, all of them do.
 pub fn read(text: &[u8], array: &mut [u8]) -> Reading
-    ensures { λ r. ⌜ r ≡ readingOf (now (text .entry)) (length (now (array .entry))) ⌝ }
+    ensures { λ r. ⌜ told r ≡ readingOf (now (text .entry)) (length (now (array .entry))) ⌝ }
     ensures { λ _. ⌜ now (array .exit) ≡ arrayOf (now (text .entry)) (now (array .entry)) ⌝ }
 {
     if !is_array(array.len()) {
         return Reading {
-            refusal: 18,
+            refusal: Refusal::HexLength,
             place: 0,
         };
     }
     let found = judge(text, array.len());
-    if found.refusal == 0 {
+    let refusal = found.refusal;
+    if refusal.number() == 0 {
         carry_out(array, text);
     }
     found

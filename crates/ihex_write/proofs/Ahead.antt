@@ -5,7 +5,7 @@ use mathlib.Core.Path.{_≡_, refl, sym, ap, _∙_}
 use native.Mathlib.Omega.{arith}
 use lib.ListN.{length, length-append}
 use lib.Seq.{sets, length-sets}
-use Rattle.ihex_write.specs.Layout.{LF}
+use Rattle.ihex_layout.specs.Layout.{LF}
 use Rattle.ihex_write.specs.Writer.{endLine, linesAt, linesFrom, joined, textOf}
 use Rattle.ihex_write.proofs.Stores.{sets-join}
 use Rattle.ihex_write.proofs.Records.{length-line}

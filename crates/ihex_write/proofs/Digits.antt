@@ -6,7 +6,7 @@ use native.Mathlib.Numerals.{add-one}
 use native.Mathlib.Omega.{arith}
 use lib.ListN.{length, getD, take, drop}
 use lib.Seq.{sets, take-suc, length-take-le, getD-drop}
-use Rattle.ihex_write.specs.Layout.{digits, sum}
+use Rattle.ihex_layout.specs.Layout.{digits, sum}
 use Rattle.ihex_write.proofs.Stores.{Received, one-more}
 
 -- the digits of bytes and more bytes

@@ -5,7 +5,7 @@ use mathlib.Core.Path.{_≡_, refl, sym, ap, _∙_}
 use native.Mathlib.Decide.{ℕ-discrete}
 use native.Mathlib.Omega.{arith}
 use lib.ListN.{length, length-append}
-use Rattle.ihex_write.specs.Layout.{LF}
+use Rattle.ihex_layout.specs.Layout.{LF}
 use Rattle.ihex_write.specs.Writer.{linesAt, linesFrom, joined, textOf, charactersFor}
 use Rattle.ihex_write.proofs.Records.{length-line}
 use Rattle.ihex_write.proofs.Rows.{length-first, length-other}

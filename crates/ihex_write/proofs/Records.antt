@@ -5,7 +5,7 @@ use mathlib.Core.Path.{_≡_, refl, ap, _∙_}
 use native.Mathlib.Omega.{arith}
 use lib.ListN.{length, set, length-append}
 use lib.Seq.{sets}
-use Rattle.ihex_write.specs.Layout.{colon, LF, digits, sum, checksum, fields, recordLine}
+use Rattle.ihex_layout.specs.Layout.{colon, LF, digits, sum, checksum, fields, recordLine}
 use Rattle.ihex_write.proofs.Stores.{Received, one-more}
 use Rattle.ihex_write.proofs.Digits.{digits-append, length-digits}
 

@@ -7,7 +7,7 @@ use native.Mathlib.Omega.{arith}
 use borrow.Author.Tests.{eq-eqb, ne-eqb}
 use lib.ListN.{length, take, drop, length-append, length-drop}
 use lib.Seq.{sets, length-take-le, append-snoc}
-use Rattle.ihex_write.specs.Layout.{LF}
+use Rattle.ihex_layout.specs.Layout.{LF}
 use Rattle.ihex_write.specs.Writer.{upperLine, dataLine, linesAt, joined}
 use Rattle.ihex_write.proofs.Stores.{Received, one-more}
 use Rattle.ihex_write.proofs.Records.{length-line}

@@ -6,9 +6,10 @@ use mathlib.Core.List.{List, [], _∷_, _++_}
 use lib.Dec.{ltb, eqb}
 use lib.ListN.{length, take, drop}
 use lib.Seq.{sets}
-use Rattle.sizes.specs.Sizes.{isArray}
+use Rattle.memories.specs.Sizes.{isArray}
+use Rattle.refusals.specs.Refusals.{numberOf}
 use Rattle.ihex_write.specs.declared.Written.{Written}
-use Rattle.ihex_write.specs.Layout.{LF, recordLine}
+use Rattle.ihex_layout.specs.Layout.{LF, recordLine}
 
 -- type 04: the upper part of the addresses that follow
 abbrev pub upperLine : ℕ → List ℕ
@@ -47,11 +48,20 @@ textOf array = joined (linesOf array)
 abbrev pub charactersFor : ℕ → ℕ
 charactersFor size = size / 16 * 44 + size / 65536 * 16 + 12
 
-abbrev pub written : ℕ → ℕ → Written
+-- what comes back, by the papers' number
+pub record Told : Type 0 where
+  pub refusal : ℕ
+  pub characters : ℕ
+
+abbrev pub written : ℕ → ℕ → Told
 written refusal characters = record { refusal = refusal; characters = characters }
 
+-- an answer of the code
+abbrev pub told : Written → Told
+told w = written (numberOf (w .refusal)) (w .characters)
+
 -- the answer: why nothing is written, or how many characters are
-unfoldable pub writtenOf : List ℕ → ℕ → Written
+unfoldable pub writtenOf : List ℕ → ℕ → Told
 writtenOf array room =
     cond (not (isArray (length array))) (written 18 0)
     (cond (ltb room (length (textOf array))) (written 17 0)

@@ -1,18 +1,19 @@
-// Intel HEX text, and the writer: an array becomes text by the published layout. It knows bytes, characters and the sizes of an array,
-// and nothing of flash. Nothing is required of a caller; what is wrong is refused with its number.
-use sizes::is_array;
+// The writer of Intel HEX: an array becomes text by the published layout. It knows bytes, characters and the sizes of an array, and nothing
+// of flash. Nothing is required of a caller; what is wrong is refused.
+use memories::is_array;
+use refusals::Refusal;
 ghost use mathlib.Core.List.{[], _∷_, _++_};
 ghost use mathlib.Core.Path.{_≡_};
 ghost use Prim.Native.Nat.{_+_, _*_, _%_, _<_, _≤_};
 ghost use lib.ListN.{length, take, drop};
 ghost use lib.Seq.{sets};
-ghost use Rattle.ihex_write.specs.Layout as layout;
-ghost use Rattle.ihex_write.specs.Layout.{LF, digits, sum, recordLine};
-ghost use Rattle.ihex_write.specs.Writer.{upperLine, linesAt, joined, textOf, charactersFor, writtenOf, outputOf};
+ghost use Rattle.ihex_layout.specs.Layout as layout;
+ghost use Rattle.ihex_layout.specs.Layout.{LF, digits, sum, recordLine};
+ghost use Rattle.ihex_write.specs.Writer.{upperLine, linesAt, joined, textOf, charactersFor, told, writtenOf, outputOf};
 
-// Why nothing was written, 0 if the text was, and how many characters were.
+// Why nothing was written, or that the text was, and how many characters were.
 pub struct Written {
-    pub refusal: u8,
+    pub refusal: Refusal,
     pub characters: usize,
 }
 
@@ -133,25 +134,25 @@ fn characters_for(size: usize) -> usize
 
 // Writes the text of the array. What lies behind the text in the output stays; refused, all of it does.
 pub fn write(array: &[u8], output: &mut [u8]) -> Written
-    ensures { λ r. ⌜ r ≡ writtenOf (now (array .entry)) (length (now (output .entry))) ⌝ }
+    ensures { λ r. ⌜ told r ≡ writtenOf (now (array .entry)) (length (now (output .entry))) ⌝ }
     ensures { λ _. ⌜ now (output .exit) ≡ outputOf (now (array .entry)) (now (output .entry)) ⌝ }
 {
     if !is_array(array.len()) {
         return Written {
-            refusal: 18,
+            refusal: Refusal::HexLength,
             characters: 0,
         };
     }
     let characters = characters_for(array.len());
     if output.len() < characters {
         return Written {
-            refusal: 17,
+            refusal: Refusal::HexRoom,
             characters: 0,
         };
     }
     put_text(output, array);
     Written {
-        refusal: 0,
+        refusal: Refusal::Accepted,
         characters,
     }
 }

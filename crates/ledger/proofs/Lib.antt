@@ -1,1 +1,2 @@
-pub mod Frames
+pub mod Off
+pub mod Above

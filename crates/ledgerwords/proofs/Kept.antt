@@ -9,13 +9,13 @@ use native.Mathlib.Omega.{arith}
 use borrow.Author.Tests.{ne-eqb}
 use lib.Dec.{eqb}
 use lib.ListN.{length}
-use Rattle.lent.specs.Refusal.{numberOf}
+use Rattle.refusals.specs.Refusals.{numberOf}
 use Rattle.part.specs.Frame.{Lent}
-use Rattle.accounts.specs.declared.Reported.{Reported}
-use Rattle.accounts.specs.declared.Running.{Running}
-use Rattle.accounts.specs.Ledger.{Ledger}
-use Rattle.ledger.specs.Frame.{frame}
-use Rattle.ledger.proofs.Frames.{refused-leaves, at-most-9}
+use Rattle.ledger.specs.declared.Reported.{Reported}
+use Rattle.ledger.specs.declared.Running.{Running}
+use Rattle.ledger.specs.Ledger.{Ledger}
+use Rattle.ledger_frame.specs.Frame.{frame}
+use Rattle.ledger_frame.proofs.Frames.{refused-leaves, never-255}
 use Rattle.packing.specs.Packing.{packed, writtenIf}
 use Rattle.packing.proofs.Records.{same-words}
 use Rattle.framewords.specs.Words.{Handed, callOf}
@@ -37,9 +37,7 @@ bill-unread h k m = (passed-over h k m, λ e. by (isCallFor h k) refl e)
   where
     by : (b : Bool) → isCallFor h k ≡ b → faced h k m .frame .number ≡ 255 → isCallFor h k ≡ false
     by true r e =
-        let small = at-most-9 (callOf h) m (k .account) (ledgerOf k) in
-        let number = sym (ap (λ (l : LeftFor). l .frame .number) (read h k m r)) ∙ e in
-        absurd (omega arith)
+        absurd (never-255 (callOf h) m (k .account) (ledgerOf k) (sym (ap (λ (l : LeftFor). l .frame .number) (read h k m r)) ∙ e))
     by false r e = r
 
 -- two words are those of the running operation that they stand for

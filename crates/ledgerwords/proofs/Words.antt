@@ -6,13 +6,13 @@ use mathlib.Core.Path.{_≡_, ap}
 use borrow.Author.Tests.{eqb-true}
 use lib.ListN.{length}
 use Rattle.settings.specs.declared.Settings.{Settings}
-use Rattle.sheet.specs.declared.device.Device.{Device}
-use Rattle.input.specs.declared.Signals.{Signals}
+use Rattle.device.specs.declared.Device.{Device}
+use Rattle.calls.specs.declared.Signals.{Signals}
 use Rattle.part.specs.Frame.{Lent, call, replyOf}
-use Rattle.ledger.specs.declared.Booked.{Booked}
-use Rattle.accounts.specs.declared.Running.{Running}
-use Rattle.accounts.specs.Ledger.{ledger}
-use Rattle.ledger.specs.Frame.{frame, Meets}
+use Rattle.ledger_frame.specs.declared.Booked.{Booked}
+use Rattle.ledger.specs.declared.Running.{Running}
+use Rattle.ledger.specs.Ledger.{ledger}
+use Rattle.ledger_frame.specs.Frame.{frame, Meets}
 use Rattle.packing.specs.Packing.{packed, deviceOf, settingsOf, signalsOf, answerOf}
 use Rattle.framewords.specs.Words.{Handed, isCall, callOf, left}
 use Rattle.ledgerwords.specs.Words.{Ticket, isRunning, runningOf, runningWords, ledgerOf, isCallFor, leftFor, told}

@@ -5,12 +5,12 @@ use mathlib.Core.Bool.{Bool, cond, _&&_}
 use mathlib.Core.List.{List, [], _∷_}
 use lib.Dec.{eqb}
 use lib.ListN.{length, getD}
-use Rattle.lent.specs.Refusal.{numberOf}
+use Rattle.refusals.specs.Refusals.{numberOf}
 use Rattle.part.specs.Frame.{Lent}
-use Rattle.accounts.specs.declared.Reported.{Reported}
-use Rattle.accounts.specs.declared.Running.{Running}
-use Rattle.accounts.specs.Ledger.{Ledger, ledger, runs}
-use Rattle.ledger.specs.Frame.{Result, frame}
+use Rattle.ledger.specs.declared.Reported.{Reported}
+use Rattle.ledger.specs.declared.Running.{Running}
+use Rattle.ledger.specs.Ledger.{Ledger, ledger, runs}
+use Rattle.ledger_frame.specs.Frame.{Result, frame}
 use Rattle.packing.specs.Packing.{writtenIf}
 use Rattle.framewords.specs.Words as plain
 use Rattle.framewords.specs.Words.{Handed, Left, isCall, callOf}

@@ -1,8 +1,8 @@
 // Frames through the ledger, and its report, for callers that have only numbers and memories: words that stand for nothing are answered
 // with 255, and then nothing changes.
-use accounts::Running;
+use ledger::Running;
 use framewords::reply;
-use ledger::frame_for;
+use ledger_frame::frame_for;
 use packing::UNREAD;
 use packing::device_of;
 use packing::is_record;
@@ -20,8 +20,8 @@ ghost use lib.ListN.{length};
 ghost use Rattle.part.specs.Frame.{lent};
 ghost use Rattle.packing.specs.Packing.{writtenIf};
 ghost use Rattle.framewords.specs.Words.{handed, left, callOf};
-ghost use Rattle.accounts.specs.Ledger.{reported};
-ghost use Rattle.ledger.specs.Frame as through;
+ghost use Rattle.ledger.specs.Ledger.{reported};
+ghost use Rattle.ledger_frame.specs.Frame as through;
 ghost use Rattle.ledgerwords.specs.Words as words;
 
 fn running_of(running: &[u64]) -> Running
@@ -169,7 +169,7 @@ pub fn report<'a>(
     if line.len() != 3 {
         return UNREAD;
     }
-    let reported = accounts::report(totals, most, numbers, account);
+    let reported = ledger::report(totals, most, numbers, account);
     let refusal = reported.refusal;
     let number = wide(refusal.number());
     let told = [reported.total, reported.most, reported.number];

@@ -1,4 +1,3 @@
-pub mod Search
 mod Spelling
 mod Lookup
 pub mod Table

@@ -7,7 +7,7 @@ use lib.ListN.{length, getD, drop}
 use Rattle.opcodes.specs.declared.Row.{Row}
 use Rattle.opcodes.specs.declared.Command.{Command}
 use Rattle.opcodes.specs.Rows.{lookup}
-use Rattle.opcodes.proofs.Search.{from-here}
+use Rattle.numbers.proofs.Search.{from-here}
 use Rattle.opcodes.proofs.Spelling.{spelled}
 
 -- what is found in the rows of these numbers

@@ -17,7 +17,7 @@ use Rattle.cells.specs.Range.{range, filled, copied}
 use Rattle.cells.proofs.Places.{is-each, each-alike, each-then, over-in, over-out, over-alike}
 use Rattle.cells.proofs.Runs.{range-in, range-before, range-behind, range-of, begins, runs-on, ends}
 use Rattle.opcodes.specs.declared.Source.{Source}
-use Rattle.sheet.specs.declared.device.Device.{Device}
+use Rattle.device.specs.declared.Device.{Device}
 use Rattle.output.specs.Output.{Store, store, storeOf, startOf, byteFrom, driveAt, unclocked}
 use Rattle.output.specs.Steps.{sent, clipped}
 

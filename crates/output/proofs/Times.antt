@@ -12,9 +12,9 @@ use lib.ListN.{getD}
 use Rattle.cells.specs.Each.{Cell, each}
 use Rattle.cells.specs.Range.{copied}
 use Rattle.cells.proofs.Runs.{begins, runs-on, ends}
-use Rattle.sheet.specs.declared.device.Device.{Device}
-use Rattle.sheet.specs.Device.{passed}
-use Rattle.status.specs.Status.{statusOne, statusTwo}
+use Rattle.device.specs.declared.Device.{Device}
+use Rattle.device.specs.Device.{passed}
+use Rattle.device.specs.Status.{statusOne, statusTwo}
 use Rattle.output.specs.Output.{store, byteFrom}
 use Rattle.output.specs.Steps.{shown}
 use Rattle.output.specs.Time.{standing, BusyBefore}

@@ -8,11 +8,11 @@ use lib.ListN.{length, getD}
 use Rattle.cells.specs.Range.{range}
 use Rattle.opcodes.specs.declared.Source.{Source}
 use Rattle.opcodes.specs.declared.Source.the-variants.{Array, Register, Status, Identity, Legacy}
-use Rattle.sheet.specs.declared.device.Device.{Device}
-use Rattle.sheet.specs.declared.judge.Action.{Action}
-use Rattle.sheet.specs.declared.judge.Judged.{Judged}
-use Rattle.status.specs.Status.{statusOne, statusTwo}
-use Rattle.input.specs.Address.{addressOf}
+use Rattle.device.specs.declared.Device.{Device}
+use Rattle.judge.specs.declared.Action.{Action}
+use Rattle.judge.specs.declared.Judged.{Judged}
+use Rattle.device.specs.Status.{statusOne, statusTwo}
+use Rattle.calls.specs.Address.{addressOf}
 
 -- what can be read: so many bytes, and the byte at each place
 pub record Store : Type 0 where

@@ -7,7 +7,7 @@ use lib.Bits.{bitOr}
 use Rattle.cells.specs.Each.{Cell, stored, over}
 use Rattle.cells.specs.Range.{range}
 use Rattle.opcodes.specs.declared.Source.{Source}
-use Rattle.sheet.specs.declared.device.Device.{Device}
+use Rattle.device.specs.declared.Device.{Device}
 use Rattle.output.specs.Output.{Store, store, storeOf, startOf, byteFrom, unclocked}
 
 -- the positions from `first` up to `end` receive the source's bytes

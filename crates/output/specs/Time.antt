@@ -2,8 +2,8 @@
 use Prim.Native.Nat.{ℕ, _*_, _<_, _≤_, _-_}
 use mathlib.Core.Path.{_≡_}
 use lib.Dec.{ltb}
-use Rattle.sheet.specs.declared.device.Device.{Device}
-use Rattle.sheet.specs.Device.{passed}
+use Rattle.device.specs.declared.Device.{Device}
+use Rattle.device.specs.Device.{passed}
 
 -- the record at the first bit of position k, of a frame at whose first bit it stands as d
 abbrev pub standing : Device → ℕ → ℕ → Device

@@ -4,7 +4,7 @@ use mathlib.Core.Logic.{_≢_}
 use mathlib.Core.Path.{_≡_, refl, sym, ap, _∙_}
 use native.Mathlib.Omega.{arith}
 use Rattle.part.specs.Frame.{Call, Lent, lengthsOf, frame}
-use Rattle.part.proofs.Answers.{refused-leaves, at-most-8}
+use Rattle.part.proofs.Answers.{refused-leaves, call-never-255}
 use Rattle.packing.specs.Packing.{packed}
 use Rattle.packing.proofs.Records.{same-words, same-durations, is-record, same-record}
 use Rattle.framewords.specs.Words.{Handed, isCall, callOf, told, unread, faced}
@@ -24,7 +24,7 @@ passed-over h m e = rw e
 
 face-not-255 : (c : Call) (m : Lent) → frame c m .reply .refusal ≢ 255
 unfolding frame
-face-not-255 c m e = let small = at-most-8 c (lengthsOf c m) in omega arith
+face-not-255 c m e = call-never-255 c (lengthsOf c m) e
 
 exactly : (h : Handed) (m : Lent) → faced h m .number ≡ 255 → isCall h ≡ false
 exactly h m e = by (isCall h) refl

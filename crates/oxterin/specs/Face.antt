@@ -6,9 +6,9 @@ use mathlib.Core.List.{List, [], _∷_}
 use lib.Dec.{ltb, eqb}
 use lib.ListN.{length}
 use Rattle.settings.specs.Settings.{typical}
-use Rattle.sheet.specs.Device.{fresh}
-use Rattle.status.specs.Status.{statusOne, statusTwo}
-use Rattle.look.specs.Look.{startIn, lookedAt}
+use Rattle.device.specs.Device.{fresh}
+use Rattle.device.specs.Status.{statusOne, statusTwo}
+use Rattle.memories.specs.Look.{startIn, lookedAt}
 use Rattle.packing.specs.Packing.{isFlag, flagOf, memoryOf, packed, isRecord, deviceOf}
 
 -- 1.3.0: a million for the first number, a thousand for the second

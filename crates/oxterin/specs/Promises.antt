@@ -4,13 +4,13 @@ use mathlib.Core.Bool.{true, false}
 use mathlib.Core.List.{List}
 use mathlib.Core.Logic.{_≢_}
 use mathlib.Core.Path.{_≡_}
-use Rattle.sheet.specs.declared.device.Device.{Device}
+use Rattle.device.specs.declared.Device.{Device}
 use Rattle.part.specs.Frame.{Lent, frame}
 use Rattle.packing.specs.Packing.{packed, isRecord, deviceOf, isSettings, settingsOf}
 use Rattle.framewords.specs.Words.{Handed, isCall, callOf, left, told, faced}
 use Rattle.hexwords.specs.Words.{textOut, textIn}
-use Rattle.accounts.specs.declared.Reported.{Reported}
-use Rattle.accounts.specs.declared.Running.{Running}
+use Rattle.ledger.specs.declared.Reported.{Reported}
+use Rattle.ledger.specs.declared.Running.{Running}
 use Rattle.ledgerwords.specs.Words.{Ticket, isRunning, runningOf, runningWords, isCallFor, unread, reportNumber, reportWords}
 use Rattle.ledgerwords.specs.Words as ledger
 

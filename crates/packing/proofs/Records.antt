@@ -8,8 +8,8 @@ use native.Mathlib.Omega.{arith}
 use borrow.Author.Tests.{eqb-true, ltb-true}
 use lib.Dec.{eqb}
 use lib.ListN.{length, getD}
-use Rattle.sheet.specs.declared.device.Device.{Device}
-use Rattle.sheet.specs.declared.device.Mode.{Mode}
+use Rattle.device.specs.declared.Device.{Device}
+use Rattle.device.specs.declared.Mode.{Mode}
 use Rattle.packing.specs.Packing.{wordOf, isFlag, flagOf, modeNumber, isMode, modeOf, packed, isRecord, deviceOf, isSettings, settingsOf}
 
 -- the words of a list from a place on, so many of them

@@ -8,10 +8,10 @@ use lib.Dec.{ltb, eqb}
 use lib.ListN.{length, getD}
 use lib.Text.{eqt}
 use Rattle.settings.specs.declared.Settings.{Settings}
-use Rattle.sheet.specs.declared.device.Device.{Device}
-use Rattle.sheet.specs.declared.device.Mode.{Mode}
-use Rattle.look.specs.declared.Memory.{Memory}
-use Rattle.input.specs.declared.Signals.{Signals}
+use Rattle.device.specs.declared.Device.{Device}
+use Rattle.device.specs.declared.Mode.{Mode}
+use Rattle.memories.specs.declared.Memory.{Memory}
+use Rattle.calls.specs.declared.Signals.{Signals}
 use Rattle.part.specs.Frame.{Reply}
 
 -- a flag is 1 or 0

@@ -1,10 +1,10 @@
 // The words in which record, settings, signals and answer travel to callers that have only numbers and slices.
-use input::Signals;
-use look::Memory;
+use calls::Signals;
+use memories::Memory;
 use settings::Settings;
-use sheet::device::Device;
-use sheet::device::Mode;
-use sheet::judge::Outcome;
+use device::Device;
+use device::Mode;
+use judge::Outcome;
 ghost use mathlib.Core.Bool.{_&&_};
 ghost use mathlib.Core.Path.{_≡_};
 ghost use lib.Dec.{eqb};

@@ -8,7 +8,7 @@ use native.Mathlib.Nat.{not-suc-le-zero, mod-lt, mod-eq-of-lt, mod-add-mod, add-
 use native.Mathlib.Omega.{arith}
 use borrow.Author.Tests.{eq-eqb, ne-eqb}
 use lib.ListN.{getD}
-use Rattle.cells.specs.Page.{covered, last}
+use Rattle.pages.specs.Page.{covered, last}
 
 -- Of `size` data bytes in a row no two aim at one place.
 pub aimed-once : (size start i j : ℕ) → i < j → j < i + size → (start + i) % size ≡ (start + j) % size → ⊥

@@ -9,7 +9,7 @@ use lib.Bits.{bitAnd}
 use lib.ListN.{length, getD, set, take, drop, length-drop, drop-of-length-le}
 use lib.Seq.{getD-take, getD-drop, length-take-le, take-all}
 use Rattle.cells.specs.Each.{each}
-use Rattle.cells.specs.Page.{andedIn}
+use Rattle.pages.specs.Page.{andedIn}
 use Rattle.cells.proofs.Places.{each-alike, each-same, over-in, over-out}
 use Rattle.cells.proofs.Runs.{Reached, begins, goes-on, ends, range-in, range-before, range-behind}
 

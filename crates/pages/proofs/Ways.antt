@@ -10,10 +10,10 @@ use lib.Bits.{bitAnd}
 use lib.ListN.{length, getD, replicate}
 use lib.Seq.{take-all}
 use Rattle.cells.specs.Each.{each}
-use Rattle.cells.specs.Page.{loaded, andedIn, programmed}
+use Rattle.pages.specs.Page.{loaded, andedIn, programmed}
 use Rattle.cells.proofs.Places.{each-then, over-in, over-out}
 use Rattle.cells.proofs.Runs.{range-in, range-before, range-behind}
-use Rattle.cells.proofs.Programs.{covered-at, buffered}
+use Rattle.pages.proofs.Programs.{covered-at, buffered}
 use Rattle.pages.proofs.Aims.{last-aimed, none-aims}
 use Rattle.pages.proofs.Pieces.{part, part-long, part-at, anded-there, not-before, not-behind, none-left}
 

@@ -1,12 +1,12 @@
-// Programming: of the data the last bytes count, as many as the page has, and each is ANDed at the one place that it aims at. The
-// contracts cite the definitions of a program that stand in `cells`, Each.antt and Page.antt; there are none here.
-use cells::lesser;
+// Programming: of the data the last bytes count, as many as the page has, and each is ANDed at the one place that it aims at. It knows
+// pages of any size, and nothing of flash.
+use numbers::lesser;
 use cells::wrapped;
 ghost use mathlib.Core.Path.{_≡_};
 ghost use Prim.Native.Nat.{_+_, _≤_, _<_};
 ghost use lib.ListN.{length, drop};
 ghost use Rattle.cells.specs.Each.{each};
-ghost use Rattle.cells.specs.Page.{andedIn, programmed};
+ghost use Rattle.pages.specs.Page.{andedIn, programmed};
 
 // The data is ANDed into the memory from `at` on, a byte at a time.
 fn and_each(memory: &mut [u8], at: usize, sent: &[u8])

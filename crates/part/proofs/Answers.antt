@@ -1,5 +1,5 @@
 -- The contract of a frame admits one answer, and no other: number and word tell the cases apart. Assumes nothing.
-use Prim.Native.Nat.{ℕ, _≤_}
+use Prim.Native.Nat.{ℕ}
 use Prim.Native.String.{String}
 use mathlib.Core.Bool.{Bool, true, false, cond}
 use mathlib.Core.Logic.{_≢_}
@@ -7,16 +7,19 @@ use mathlib.Core.Path.{_≡_, refl, sym, ap, _∙_}
 use borrow.Author.Tests.{eqb-true, ne-eqb}
 use lib.Dec.{eqb}
 use lib.Text.{eqt}
-use Rattle.sheet.specs.declared.device.Device.{Device}
-use Rattle.sheet.specs.declared.judge.Outcome.{Outcome}
-use Rattle.lent.specs.declared.refusal.Refusal.{Refusal}
-use Rattle.lent.specs.declared.refusal.Lengths.{Lengths}
-use Rattle.lent.specs.Refusal.{numberOf}
-use Rattle.lent.proofs.Numbers as numbers
-use Rattle.lent.proofs.Numbers.{tells, refusalAt, number-tells, has-refusal}
-use Rattle.part.specs.declared.frame.Answer.{Answer}
+use Rattle.device.specs.declared.Device.{Device}
+use Rattle.judge.specs.declared.Outcome.{Outcome}
+use Rattle.refusals.specs.declared.Refusal.{Refusal}
+use Rattle.calls.specs.declared.Lengths.{Lengths}
+use Rattle.refusals.specs.Refusals.{numberOf}
+use Rattle.numbers.proofs.Tells.{tells}
+use Rattle.refusals.proofs.Numbers.{number-tells, never-255}
+use Rattle.calls.specs.Refusal.{refusalOf}
+use Rattle.calls.proofs.Refused.{not-the-ledgers}
+use Rattle.operations.specs.declared.Range.{Range}
+use Rattle.part.specs.declared.Answer.{Answer}
 use Rattle.part.specs.Words.{wordOf}
-use Rattle.part.specs.Frame.{Call, Lent, Reply, Result, lengthsOf, numberFor, judgedOf, answered, refused, replied, frame, replyOf, resultOf, refusing, Meets}
+use Rattle.part.specs.Frame.{Call, Lent, Reply, Result, lengthsOf, numberFor, judgedOf, coveredBy, answered, refused, replied, frame, replyOf, resultOf, refusing, Meets}
 
 -- the outcome of a word
 outcomeOf : String → Outcome
@@ -39,20 +42,22 @@ pub word-tells : (a b : Outcome) → wordOf a ≡ wordOf b → a ≡ b
 word-tells = tells wordOf outcomeOf back
 
 -- an answer made of its fields
-made : Refusal → Outcome → ℕ → ℕ → Device → Answer
-made refusal outcome first driven device = record { refusal = refusal; outcome = outcome; first = first; driven = driven; device = device }
+made : Refusal → Outcome → ℕ → ℕ → Range → Device → Answer
+made refusal outcome first driven covered device =
+    record { refusal = refusal; outcome = outcome; first = first; driven = driven; covered = covered; device = device }
 
-same-answer : (a b : Answer) → a .refusal ≡ b .refusal → a .outcome ≡ b .outcome → a .first ≡ b .first → a .driven ≡ b .driven → a .device ≡ b .device → a ≡ b
+same-answer : (a b : Answer) → a .refusal ≡ b .refusal → a .outcome ≡ b .outcome → a .first ≡ b .first → a .driven ≡ b .driven → a .covered ≡ b .covered
+    → a .device ≡ b .device → a ≡ b
 unfolding made
-same-answer a b p q r s t =
-    let e : made (a .refusal) (a .outcome) (a .first) (a .driven) (a .device) ≡ made (b .refusal) (b .outcome) (b .first) (b .driven) (b .device) = rw (p, q, r, s, t) in
+same-answer a b p q r s t u =
+    let e : made (a .refusal) (a .outcome) (a .first) (a .driven) (a .covered) (a .device) ≡ made (b .refusal) (b .outcome) (b .first) (b .driven) (b .covered) (b .device) = rw (p, q, r, s, t, u) in
     e
 
 -- an answer is told by its number and word
 pub same-reply : (a b : Answer) → replyOf a ≡ replyOf b → a ≡ b
 same-reply a b e =
     same-answer a b (number-tells (a .refusal) (b .refusal) (ap (λ (r : Reply). r .refusal) e)) (word-tells (a .outcome) (b .outcome) (ap (λ (r : Reply). r .outcome) e))
-    (ap (λ (r : Reply). r .first) e) (ap (λ (r : Reply). r .driven) e) (ap (λ (r : Reply). r .device) e)
+    (ap (λ (r : Reply). r .first) e) (ap (λ (r : Reply). r .driven) e) (ap (λ (r : Reply). r .covered) e) (ap (λ (r : Reply). r .device) e)
 
 -- there is no other answer
 pub one-answer : (c : Call) (m : Lent) (a b : Answer) (n o : Lent) → Meets c m a n → Meets c m b o → (a ≡ b) × (n ≡ o)
@@ -65,7 +70,7 @@ pub refusal-is : (c : Call) (lengths : Lengths) → replied c lengths .refusal �
 unfolding replied
 refusal-is c lengths = by (eqb (numberFor c lengths) 0) (eqb-true (numberFor c lengths) 0)
   where
-    by : (b : Bool) → (b ≡ true → numberFor c lengths ≡ 0) → cond b (answered (judgedOf c)) (refused (numberFor c lengths) (c .device)) .refusal ≡ numberFor c lengths
+    by : (b : Bool) → (b ≡ true → numberFor c lengths ≡ 0) → cond b (answered (judgedOf c) (coveredBy (judgedOf c) c lengths)) (refused (numberFor c lengths) (c .device)) .refusal ≡ numberFor c lengths
     by true z = sym (z refl)
     by false z = refl
 
@@ -73,36 +78,44 @@ refusal-is c lengths = by (eqb (numberFor c lengths) 0) (eqb-true (numberFor c l
 pub not-accepted : (c : Call) (lengths : Lengths) → replied c lengths .refusal ≢ 0 → eqb (numberFor c lengths) 0 ≡ false
 not-accepted c lengths n = ne-eqb (numberFor c lengths) 0 (λ e. n (refusal-is c lengths ∙ e))
 
--- the number of a call is that of a refusal
-pub numbered : (c : Call) (lengths : Lengths) → numberOf (refusalAt (numberFor c lengths)) ≡ numberFor c lengths
-unfolding numberFor
-numbered c lengths = has-refusal (c .device) (c .settings) (c .signals .bits) (c .signals .pace) lengths
+-- why a call is refused
+abbrev why : Call → Lengths → Refusal
+why c lengths = refusalOf (c .device) (c .settings) (c .signals) lengths
 
--- and there is one
+-- and there is one answer
 pub answerOf : Call → Lengths → Answer
 answerOf c lengths =
     let j = judgedOf c in
-    cond (eqb (numberFor c lengths) 0) (made Refusal.Accepted (j .outcome) (j .first) (j .driven) (j .device))
-    (refusing (refusalAt (numberFor c lengths)) (c .device))
+    cond (eqb (numberFor c lengths) 0) (made Refusal.Accepted (j .outcome) (j .first) (j .driven) (coveredBy j c lengths) (j .device))
+    (refusing (why c lengths) (c .device))
 
 pub some-answer : (c : Call) (m : Lent) → Meets c m (answerOf c (lengthsOf c m)) (frame c m .lent)
-unfolding answerOf made frame replied
+unfolding answerOf made frame replied numberFor
 some-answer c m = ap (λ (r : Reply). record { reply = r; lent = frame c m .lent }) (by (eqb (numberFor c (lengthsOf c m)) 0))
   where
-    number : ℕ
-    number = numberFor c (lengthsOf c m)
+    lengths : Lengths
+    lengths = lengthsOf c m
 
-    by : (b : Bool) → replyOf (cond b (made Refusal.Accepted (judgedOf c .outcome) (judgedOf c .first) (judgedOf c .driven) (judgedOf c .device)) (refusing (refusalAt number) (c .device)))
-        ≡ cond b (answered (judgedOf c)) (refused number (c .device))
+    accepting : Answer
+    accepting = made Refusal.Accepted (judgedOf c .outcome) (judgedOf c .first) (judgedOf c .driven) (coveredBy (judgedOf c) c lengths) (judgedOf c .device)
+
+    by : (b : Bool) → replyOf (cond b accepting (refusing (why c lengths) (c .device)))
+        ≡ cond b (answered (judgedOf c) (coveredBy (judgedOf c) c lengths)) (refused (numberFor c lengths) (c .device))
     by true = refl
-    by false = ap (λ (n : ℕ). refused n (c .device)) (numbered c (lengthsOf c m))
+    by false = refl
 
 -- a refused call leaves the record and every lent byte
 pub refused-leaves : (c : Call) (m : Lent) → frame c m .reply .refusal ≢ 0 → (frame c m .reply .device ≡ c .device) × (frame c m .lent ≡ m)
 unfolding frame replied
 refused-leaves c m n = let e = not-accepted c (lengthsOf c m) n in (rw e, rw e)
 
--- no number of the part's is above 8
-pub at-most-8 : (c : Call) (lengths : Lengths) → replied c lengths .refusal ≤ 8
+-- the number of a call is never the ledger's
+pub never-9 : (c : Call) (lengths : Lengths) → replied c lengths .refusal ≢ 9
 unfolding numberFor
-at-most-8 c lengths = rw (refusal-is c lengths) (numbers.at-most-8 (c .device) (c .settings) (c .signals .bits) (c .signals .pace) lengths)
+never-9 c lengths e =
+    not-the-ledgers (c .device) (c .settings) (c .signals) lengths (number-tells (why c lengths) Refusal.Account (sym (refusal-is c lengths) ∙ e))
+
+-- nor the one that says that words stand for nothing
+pub call-never-255 : (c : Call) (lengths : Lengths) → replied c lengths .refusal ≢ 255
+unfolding numberFor
+call-never-255 c lengths e = never-255 (why c lengths) (sym (refusal-is c lengths) ∙ e)

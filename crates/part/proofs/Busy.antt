@@ -15,20 +15,20 @@ use Rattle.opcodes.specs.declared.Work.{Work}
 use Rattle.opcodes.specs.Rows.{rowOf}
 use Rattle.opcodes.specs.Rule.{ruleOf}
 use Rattle.opcodes.proofs.Table.{rule-kept}
-use Rattle.sheet.specs.declared.device.Device.{Device}
-use Rattle.sheet.specs.declared.device.Mode.{Mode}
-use Rattle.sheet.specs.declared.device.Mode.the-variants.{Awake, Deep, UltraDeep}
+use Rattle.device.specs.declared.Device.{Device}
+use Rattle.device.specs.declared.Mode.{Mode}
+use Rattle.device.specs.declared.Mode.the-variants.{Awake, Deep, UltraDeep}
 use Rattle.settings.specs.declared.Settings.{Settings}
-use Rattle.sheet.specs.declared.judge.Facts.{Facts}
-use Rattle.sheet.specs.declared.judge.Judged.{Judged}
-use Rattle.sheet.specs.declared.judge.Outcome.{Outcome}
-use Rattle.sheet.specs.Device.{awake, deep, ultraDeep, reset}
-use Rattle.sheet.specs.Judging.{nothing, control, ordered, carried, judged}
-use Rattle.sheet.proofs.Leaves.{Heard, each-answer, full-duration}
-use Rattle.lent.specs.declared.refusal.Lengths.{Lengths}
-use Rattle.lent.specs.Refusal.{bytesFor}
+use Rattle.judge.specs.declared.Facts.{Facts}
+use Rattle.judge.specs.declared.Judged.{Judged}
+use Rattle.judge.specs.declared.Outcome.{Outcome}
+use Rattle.device.specs.Device.{awake, deep, ultraDeep, reset}
+use Rattle.judge.specs.Judging.{nothing, control, ordered, carried, judged}
+use Rattle.judge.proofs.Leaves.{Heard, each-answer, full-duration}
+use Rattle.calls.specs.declared.Lengths.{Lengths}
+use Rattle.calls.specs.Refusal.{bytesFor}
 use Rattle.part.specs.Words.{wordOf}
-use Rattle.part.specs.Frame.{Call, numberFor, risen, factsOf, judgedOf, answered, refused, replied}
+use Rattle.part.specs.Frame.{Call, numberFor, risen, factsOf, judgedOf, coveredBy, answered, refused, replied}
 use Rattle.part.specs.Busy.{isReset, resets, busyAfter}
 use Rattle.part.proofs.Answers.{word-tells, refusal-is}
 
@@ -113,7 +113,7 @@ module _ (c : Call) (lengths : Lengths) where
   unfolding replied judgedOf
   begun-idle e = by (eqb (numberFor c lengths) 0) e
     where
-      by : (b : Bool) → cond b (answered (judgedOf c)) (refused (numberFor c lengths) (c .device)) .outcome ≡ "begun" → c .device .busy ≤ c .signals .elapsed
+      by : (b : Bool) → cond b (answered (judgedOf c) (coveredBy (judgedOf c) c lengths)) (refused (numberFor c lengths) (c .device)) .outcome ≡ "begun" → c .device .busy ≤ c .signals .elapsed
       by true e =
           let still : ltb 0 (c .device .busy - c .signals .elapsed) ≡ false = kept (risen c) (c .settings) (factsOf c) .0 (ap (λ w. eqt w "begun") e) in
           let left = ltb-false 0 (c .device .busy - c .signals .elapsed) still in
@@ -125,9 +125,9 @@ module _ (c : Call) (lengths : Lengths) where
   unfolding replied judgedOf
   busy-is e = rw (sym (refusal-is c lengths) ∙ e) (by (eqt (wordOf (judgedOf c .outcome)) "begun") refl)
     where
-      by : (b : Bool) → eqt (wordOf (judgedOf c .outcome)) "begun" ≡ b → judgedOf c .device .busy ≡ busyAfter c (answered (judgedOf c))
+      by : (b : Bool) → eqt (wordOf (judgedOf c .outcome)) "begun" ≡ b → judgedOf c .device .busy ≡ busyAfter c (answered (judgedOf c) (coveredBy (judgedOf c) c lengths))
       by true w = rw w (full-duration (risen c) (c .settings) (factsOf c) (is-begun (judgedOf c .outcome) w))
       by false w =
           rw w
           (kept (risen c) (c .settings) (factsOf c) .1 w ∙
-          ap (λ (left : ℕ). cond (resets c (answered (judgedOf c))) 0 left) (sym (sub-add-eq (c .device .busy) (c .signals .elapsed) (bytesFor (c .signals .bits) * c .signals .pace))))
+          ap (λ (left : ℕ). cond (resets c (answered (judgedOf c) (coveredBy (judgedOf c) c lengths))) 0 left) (sym (sub-add-eq (c .device .busy) (c .signals .elapsed) (bytesFor (c .signals .bits) * c .signals .pace))))

@@ -11,14 +11,14 @@ use lib.Text.{eqt}
 use Rattle.cells.specs.Each.{each}
 use Rattle.cells.proofs.Places.{each-same}
 use Rattle.opcodes.specs.Rows.{rowOf}
-use Rattle.sheet.specs.declared.judge.Action.{Action}
-use Rattle.sheet.specs.declared.judge.Outcome.{Outcome}
-use Rattle.sheet.specs.Begins.{changesArray, ready, lasts}
-use Rattle.sheet.proofs.Begins.{exactly-when}
-use Rattle.sheet.proofs.Leaves.{as-asked, full-duration}
+use Rattle.judge.specs.declared.Action.{Action}
+use Rattle.judge.specs.declared.Outcome.{Outcome}
+use Rattle.judge.specs.Begins.{changesArray, ready, lasts}
+use Rattle.judge.proofs.Begins.{exactly-when}
+use Rattle.judge.proofs.Leaves.{as-asked, full-duration}
 use Rattle.part.specs.Words.{wordOf}
-use Rattle.memory.specs.Operations.{cellOf, onArray}
-use Rattle.part.specs.Frame.{Call, Lent, lengthsOf, numberFor, risen, factsOf, judgedOf, answered, refused, replied, frame}
+use Rattle.operations.specs.Operations.{cellOf, onArray}
+use Rattle.part.specs.Frame.{Call, Lent, lengthsOf, numberFor, risen, factsOf, judgedOf, coveredBy, answered, refused, replied, frame}
 use Rattle.part.specs.Effect.{takesEffect, operationOf}
 use Rattle.part.proofs.Answers.{word-tells}
 
@@ -73,7 +73,7 @@ module _ (c : Call) (m : Lent) where
       lasts-for : ℕ
       lasts-for = lasts (rowOf (factsOf c .code) .command) (c .settings) (factsOf c)
 
-      by : (b : Bool) → cond b (answered (judgedOf c)) (refused (numberFor c (lengthsOf c m)) (c .device)) .outcome ≡ "begun"
-          → cond b (answered (judgedOf c)) (refused (numberFor c (lengthsOf c m)) (c .device)) .device .busy ≡ lasts-for
+      by : (b : Bool) → cond b (answered (judgedOf c) (coveredBy (judgedOf c) c (lengthsOf c m))) (refused (numberFor c (lengthsOf c m)) (c .device)) .outcome ≡ "begun"
+          → cond b (answered (judgedOf c) (coveredBy (judgedOf c) c (lengthsOf c m))) (refused (numberFor c (lengthsOf c m)) (c .device)) .device .busy ≡ lasts-for
       by true e = full-duration (risen c) (c .settings) (factsOf c) (word-tells (judgedOf c .outcome) Outcome.Begun e)
       by false e = absurd (true≢false (ap (λ (w : String). eqt w "nothing") e))

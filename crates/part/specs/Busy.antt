@@ -7,10 +7,10 @@ use Rattle.opcodes.specs.declared.Command.the-variants.{Unlisted, Reads, Orders
 use Rattle.opcodes.specs.declared.Order.{Order}
 use Rattle.opcodes.specs.declared.Order.the-variants.{Enable, Disable, DeepPowerDown, UltraDeepPowerDown, Resume, Reset}
 use Rattle.opcodes.specs.Rows.{rowOf}
-use Rattle.sheet.specs.Begins.{lasts}
-use Rattle.sheet.specs.Device.{awake}
-use Rattle.lent.specs.Refusal.{bytesFor}
-use Rattle.input.specs.declared.Signals.{Signals}
+use Rattle.judge.specs.Begins.{lasts}
+use Rattle.device.specs.Device.{awake}
+use Rattle.calls.specs.Refusal.{bytesFor}
+use Rattle.calls.specs.declared.Signals.{Signals}
 use Rattle.part.specs.Frame.{Call, Reply, factsOf}
 
 -- the ticks of a call: those elapsed, and those of the frame, a partial last byte position too

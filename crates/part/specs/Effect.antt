@@ -2,10 +2,10 @@
 use mathlib.Core.Bool.{Bool, _&&_}
 use lib.Dec.{eqb}
 use Rattle.opcodes.specs.Rows.{rowOf}
-use Rattle.sheet.specs.Begins.{asksFor, ready}
-use Rattle.lent.specs.declared.refusal.Lengths.{Lengths}
+use Rattle.judge.specs.Begins.{asksFor, ready}
+use Rattle.calls.specs.declared.Lengths.{Lengths}
 use Rattle.part.specs.Frame.{Call, numberFor, risen, factsOf}
-use Rattle.memory.specs.Operations.{Operation, onArray}
+use Rattle.operations.specs.Operations.{Operation, onArray}
 
 -- the call is accepted, and the frame is a program or an erase, complete, on a boundary, with WEL 1, the part awake, idle at the frame's
 -- first bit, BP0 0

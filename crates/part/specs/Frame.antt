@@ -8,21 +8,24 @@ use lib.Dec.{eqb}
 use lib.ListN.{length, getD}
 use Rattle.cells.specs.Each.{each, stored}
 use Rattle.cells.specs.Range.{range}
-use Rattle.sheet.specs.declared.device.Device.{Device}
+use Rattle.device.specs.declared.Device.{Device}
 use Rattle.settings.specs.declared.Settings.{Settings}
-use Rattle.sheet.specs.declared.judge.Facts.{Facts}
-use Rattle.sheet.specs.declared.judge.Judged.{Judged}
-use Rattle.sheet.specs.declared.judge.Outcome.{Outcome}
-use Rattle.sheet.specs.Device.{isBusy, passed}
-use Rattle.sheet.specs.Judging.{judged}
-use Rattle.lent.specs.declared.refusal.Lengths.{Lengths}
-use Rattle.lent.specs.declared.refusal.Refusal.{Refusal}
-use Rattle.lent.specs.Refusal.{numberOf, bytesFor, refusalOf}
-use Rattle.input.specs.declared.Signals.{Signals}
-use Rattle.part.specs.declared.frame.Answer.{Answer}
+use Rattle.judge.specs.declared.Facts.{Facts}
+use Rattle.judge.specs.declared.Judged.{Judged}
+use Rattle.judge.specs.declared.Outcome.{Outcome}
+use Rattle.device.specs.Device.{isBusy, passed}
+use Rattle.judge.specs.Judging.{judged}
+use Rattle.calls.specs.declared.Lengths.{Lengths}
+use Rattle.refusals.specs.declared.Refusal.{Refusal}
+use Rattle.refusals.specs.Refusals.{numberOf}
+use Rattle.calls.specs.Address.{addressOf}
+use Rattle.calls.specs.Refusal.{bytesFor, refusalOf}
+use Rattle.calls.specs.declared.Signals.{Signals}
+use Rattle.part.specs.declared.Answer.{Answer}
 use Rattle.part.specs.Words.{wordOf}
 use Rattle.output.specs.Time.{standing}
-use Rattle.memory.specs.Operations.{cellOf, onArray, onRegister}
+use Rattle.operations.specs.declared.Range.{Range}
+use Rattle.operations.specs.Operations.{cellOf, onArray, onRegister, span, rangeOf}
 use Rattle.output.specs.Output.{store, readAt}
 
 -- what a call is handed, beside the memories: the record, the settings, the input bytes, and the bits clocked, WP's level, the ticks
@@ -45,12 +48,13 @@ pub record Lent : Type 0 where
 abbrev pub lent : List ℕ → List ℕ → List ℕ → Lent
 lent array register output = record { array = array; register = register; output = output }
 
--- what comes back, by the paper's number and word
+-- what comes back, by the paper's number and word, with the range of the array that the call covered
 pub record Reply : Type 0 where
   pub refusal : ℕ
   pub outcome : String
   pub first : ℕ
   pub driven : ℕ
+  pub covered : Range
   pub device : Device
 
 -- the result of a call: what comes back, and what the memories then hold
@@ -63,7 +67,7 @@ lengthsOf c m = record { array = length (m .array); register = length (m .regist
 
 -- the number of its refusal; 0 if there is none
 unfoldable pub numberFor : Call → Lengths → ℕ
-numberFor c lengths = refusalOf (c .device) (c .settings) (c .signals .bits) (c .signals .pace) lengths
+numberFor c lengths = numberOf (refusalOf (c .device) (c .settings) (c .signals) lengths)
 
 -- time passes first: the record at the frame's first bit
 abbrev pub timed : Call → Device
@@ -80,7 +84,7 @@ risen c = standsAt c (bytesFor (c .signals .bits))
 -- what judging needs to know is taken from the frame; whether the part is busy, at the first bit
 abbrev pub factsFor : List ℕ → Signals → Bool → Facts
 factsFor input signals busy =
-    record { code = getD input 0 0; second = getD input 1 0; bytes = length input; bits = signals .bits; wp = signals .wp; busy = busy }
+    record { code = getD input 0 0; second = getD input 1 0; address = addressOf input; bytes = length input; bits = signals .bits; wp = signals .wp; busy = busy }
 
 abbrev pub factsOf : Call → Facts
 factsOf c = factsFor (c .input) (c .signals) (isBusy (timed c))
@@ -89,17 +93,23 @@ factsOf c = factsFor (c .input) (c .signals) (isBusy (timed c))
 unfoldable pub judgedOf : Call → Judged
 judgedOf c = judged (risen c) (c .settings) (factsOf c)
 
+-- the range of the array that an accepted call covers
+abbrev pub coveredBy : Judged → Call → Lengths → Range
+coveredBy j c lengths = rangeOf (onArray (j .action) (lengths .array) (c .input))
+
 -- what comes back from an accepted call
-abbrev pub answered : Judged → Reply
-answered j = record { refusal = 0; outcome = wordOf (j .outcome); first = j .first; driven = j .driven; device = j .device }
+abbrev pub answered : Judged → Range → Reply
+answered j covered =
+    record { refusal = 0; outcome = wordOf (j .outcome); first = j .first; driven = j .driven; covered = covered; device = j .device }
 
 -- and from a refused one: its number, the record untouched, nothing driven
 abbrev pub refused : ℕ → Device → Reply
-refused number d = record { refusal = number; outcome = "nothing"; first = 0; driven = 0; device = d }
+refused number d = record { refusal = number; outcome = "nothing"; first = 0; driven = 0; covered = span 0 0; device = d }
 
 -- what comes back: of the memories only the lengths bear on it
 unfoldable pub replied : Call → Lengths → Reply
-replied c lengths = cond (eqb (numberFor c lengths) 0) (answered (judgedOf c)) (refused (numberFor c lengths) (c .device))
+replied c lengths =
+    cond (eqb (numberFor c lengths) 0) (answered (judgedOf c) (coveredBy (judgedOf c) c lengths)) (refused (numberFor c lengths) (c .device))
 
 -- what the memories then hold, by what was judged and how the record stood: the operations took effect, and of the output the first n
 -- bytes are written
@@ -123,7 +133,7 @@ lentAfter c m = lentBy (judgedOf c) (standsAt c) c m
 
 -- an accepted call
 abbrev pub served : Call → Lent → Result
-served c m = record { reply = answered (judgedOf c); lent = lentAfter c m }
+served c m = record { reply = answered (judgedOf c) (coveredBy (judgedOf c) c (lengthsOf c m)); lent = lentAfter c m }
 
 -- one frame; a refused call leaves every byte that was lent as it was
 unfoldable pub frame : Call → Lent → Result
@@ -135,13 +145,21 @@ frame c m =
 
 -- an answer of the code, by the paper's number and word
 abbrev pub replyOf : Answer → Reply
-replyOf a = record { refusal = numberOf (a .refusal); outcome = wordOf (a .outcome); first = a .first; driven = a .driven; device = a .device }
+replyOf a =
+    record {
+      refusal = numberOf (a .refusal);
+      outcome = wordOf (a .outcome);
+      first = a .first;
+      driven = a .driven;
+      covered = a .covered;
+      device = a .device;
+    }
 
 abbrev pub resultOf : Answer → Lent → Result
 resultOf a m = record { reply = replyOf a; lent = m }
 
 abbrev pub refusing : Refusal → Device → Answer
-refusing refusal d = record { refusal = refusal; outcome = Outcome.Nothing; first = 0; driven = 0; device = d }
+refusing refusal d = record { refusal = refusal; outcome = Outcome.Nothing; first = 0; driven = 0; covered = span 0 0; device = d }
 
 -- the contract of a call: its answer and what it leaves of the lent memories are the frame's
 abbrev pub Meets : Call → Lent → Answer → Lent → Type 0

@@ -1,6 +1,6 @@
--- The outcomes, by the paper's words. (The refusals' numbers are `numberOf` of `lent`.) Assumes nothing.
+-- The outcomes, by the paper's words. (The refusals' numbers are `numberOf` of `refusals`.) Assumes nothing.
 use Prim.Native.String.{String}
-use Rattle.sheet.specs.declared.judge.Outcome.{Outcome}
+use Rattle.judge.specs.declared.Outcome.{Outcome}
 
 abbrev pub wordOf : Outcome → String
 wordOf Outcome.Nothing = "nothing"

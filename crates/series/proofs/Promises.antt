@@ -11,23 +11,23 @@ use Rattle.runs.specs.Run as run
 use Rattle.runs.proofs.Laws.{one-end, one-gathered, one-ran, end-joined, gathered-joined, left-out, end-seen, end-alike, gathered-alike, outputs-alike, as-the-run, can-be-run as run-of}
 use Rattle.cells.proofs.Places.{getD-each, each-same}
 use Rattle.opcodes.specs.Rows.{rowOf, rows, lookup}
-use Rattle.sheet.specs.declared.device.Device.{Device}
-use Rattle.sheet.specs.declared.judge.Action.{Action}
-use Rattle.sheet.specs.Begins.{changesArray, ready}
-use Rattle.sheet.specs.Device.{awake, unsound}
-use Rattle.sheet.proofs.Begins.{exactly-when}
-use Rattle.sheet.proofs.Leaves.{reset-still}
-use Rattle.sheet.proofs.Records.{sound-then}
-use Rattle.memory.specs.Operations.{Operation, onRegister}
+use Rattle.device.specs.declared.Device.{Device}
+use Rattle.judge.specs.declared.Action.{Action}
+use Rattle.judge.specs.Begins.{changesArray, ready}
+use Rattle.device.specs.Device.{awake, unsound}
+use Rattle.judge.proofs.Begins.{exactly-when}
+use Rattle.judge.proofs.Leaves.{reset-still}
+use Rattle.device.proofs.Records.{sound-then}
+use Rattle.operations.specs.Operations.{Operation, onRegister}
 use Rattle.part.specs.Frame.{Reply, Result, factsOf, risen, judgedOf, numberFor}
 use Rattle.part.specs.Frame as part
 use Rattle.part.proofs.Answers.{answerOf, some-answer}
 use Rattle.series.specs.Turns.{Turn, callOf, lengthsOf, replyTo, effectOf, onward, replies, operations, lastRecord}
 use Rattle.series.specs.Series.{Step, State, Made, turnsOf, lentTo, resultOf, left, next, results, end, madeOf}
-use Rattle.series.specs.Bytes.{carried, applied, since, bytesAt, andAll, startAt}
+use Rattle.operations.specs.Bytes.{carried, applied, since, bytesAt, andAll, startAt}
 use Rattle.series.specs.Promises.{Promises, effects, asRefused}
 use Rattle.series.proofs.Lending.{lent-all, returned-all}
-use Rattle.series.proofs.Applied.{applied-each, through, since-the-last-erase, programs-exchanged, operation-twice}
+use Rattle.operations.proofs.Applied.{applied-each, through, since-the-last-erase, programs-exchanged, operation-twice}
 use Rattle.series.proofs.Turns.{effect-begun, refused-reply, refused-effect, sound-series, each-works}
 use Rattle.series.proofs.Steps.{reply-is, array-is, register-is, refused-result, refused-left}
 

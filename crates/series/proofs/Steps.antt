@@ -10,17 +10,17 @@ use borrow.Author.Tests.{eqb-true, ne-eqb}
 use lib.Dec.{eqb}
 use Rattle.cells.specs.Each.{each}
 use Rattle.opcodes.specs.Rows.{rowOf}
-use Rattle.sheet.specs.Begins.{asksFor}
-use Rattle.sheet.specs.declared.device.Device.{Device}
-use Rattle.memory.specs.Operations.{Operation, cellOf, onRegister}
+use Rattle.judge.specs.Begins.{asksFor}
+use Rattle.device.specs.declared.Device.{Device}
+use Rattle.operations.specs.Operations.{Operation, cellOf, onRegister}
 use Rattle.part.specs.Frame.{Call, Lent, factsOf, judgedOf, numberFor, replied, frame}
 use Rattle.part.specs.Frame as part
 use Rattle.part.specs.Effect.{takesEffect, operationOf}
-use Rattle.memory.proofs.Blocks.{operation-inside, once-inside}
+use Rattle.operations.proofs.Blocks.{operation-inside, once-inside}
 use Rattle.part.proofs.Effects.{only-then, then-always}
 use Rattle.series.specs.Turns.{Turn, callOf, lengthsOf, replyTo, effectOf}
 use Rattle.series.specs.Series.{Step, State, returned, lentTo, resultOf, left}
-use Rattle.series.specs.Bytes.{applied}
+use Rattle.operations.specs.Bytes.{applied}
 use Rattle.series.specs.Promises.{asRefused}
 use Rattle.series.proofs.Lending.{length-lent, returned-each, returned-same}
 use Rattle.series.proofs.Turns.{refusal-is, refused-reply, accepted-turn, effect-accepted}

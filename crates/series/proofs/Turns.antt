@@ -14,21 +14,21 @@ use Rattle.opcodes.specs.declared.Command.{Command}
 use Rattle.opcodes.specs.declared.Command.the-variants.{Unlisted, Reads, Orders, Works}
 use Rattle.opcodes.specs.declared.Work.{Work}
 use Rattle.opcodes.specs.Rows.{rowOf}
-use Rattle.sheet.specs.declared.device.Device.{Device}
-use Rattle.sheet.specs.declared.judge.Facts.{Facts}
-use Rattle.sheet.specs.Begins.{asksFor, meansArray, ready}
-use Rattle.sheet.specs.Device.{awake, unsound}
-use Rattle.sheet.proofs.Begins.{exactly-when}
-use Rattle.sheet.proofs.Leaves.{as-asked, stays-sound}
-use Rattle.sheet.proofs.Records.{stays-idle, passed-sound}
-use Rattle.lent.proofs.Lengths.{Accepted, accepted}
-use Rattle.memory.specs.Operations.{Operation, onArray}
+use Rattle.device.specs.declared.Device.{Device}
+use Rattle.judge.specs.declared.Facts.{Facts}
+use Rattle.judge.specs.Begins.{asksFor, meansArray, ready}
+use Rattle.device.specs.Device.{awake, unsound}
+use Rattle.judge.proofs.Begins.{exactly-when}
+use Rattle.judge.proofs.Leaves.{as-asked, stays-sound}
+use Rattle.device.proofs.Records.{stays-idle, passed-sound}
+use Rattle.calls.proofs.Accepting.{Accepting, accepted}
+use Rattle.operations.specs.Operations.{Operation, onArray}
 use Rattle.part.specs.Words.{wordOf}
 use Rattle.part.proofs.Answers as answers
-use Rattle.part.specs.Frame.{Call, Reply, numberFor, timed, risen, factsOf, judgedOf, answered, refused, replied}
+use Rattle.part.specs.Frame.{Call, Reply, numberFor, timed, risen, factsOf, judgedOf, coveredBy, answered, refused, replied}
 use Rattle.part.specs.Effect.{takesEffect, operationOf}
 use Rattle.series.specs.Turns.{Turn, callOf, lengthsOf, replyTo, effectOf, onward, operations, lastRecord}
-use Rattle.series.specs.Bytes.{works, allWork}
+use Rattle.operations.specs.Bytes.{works, allWork}
 
 -- what an opcode for the array asks for is a program or an erase
 asked-works : (c : Command) (size : ℕ) (input : List ℕ) → meansArray c ≡ true → works (onArray (asksFor c) size input) ≡ true
@@ -61,13 +61,13 @@ module _ (t : Turn) (d : Device) where
   refused-effect n = rw (untrue n)
 
   -- an accepted one is judged, and what acceptance tells is known
-  pub accepted-reply : replyTo t d .refusal ≡ 0 → replyTo t d ≡ answered (judgedOf (callOf t d))
+  pub accepted-reply : replyTo t d .refusal ≡ 0 → replyTo t d ≡ answered (judgedOf (callOf t d)) (coveredBy (judgedOf (callOf t d)) (callOf t d) (lengthsOf t))
   unfolding replied
   accepted-reply e = rw (sym refusal-is ∙ e)
 
-  pub accepted-turn : replyTo t d .refusal ≡ 0 → Accepted d (t .settings) (t .signals .bits) (t .signals .pace) (lengthsOf t)
+  pub accepted-turn : replyTo t d .refusal ≡ 0 → Accepting d (t .settings) (t .signals) (lengthsOf t)
   unfolding numberFor
-  accepted-turn e = accepted d (t .settings) (t .signals .bits) (t .signals .pace) (lengthsOf t) (sym refusal-is ∙ e)
+  accepted-turn e = accepted d (t .settings) (t .signals) (lengthsOf t) (sym refusal-is ∙ e)
 
   -- an operation takes effect in an accepted turn only
   pub effect-accepted : takesEffect (callOf t d) (lengthsOf t) ≡ true → replyTo t d .refusal ≡ 0
@@ -115,7 +115,7 @@ module _ (t : Turn) (d : Device) where
   unfolding judgedOf
   sound-turn u = by (ℕ-discrete (replyTo t d .refusal) 0)
     where
-      judging : Accepted d (t .settings) (t .signals .bits) (t .signals .pace) (lengthsOf t) → unsound (judgedOf (callOf t d) .device) ≡ false
+      judging : Accepting d (t .settings) (t .signals) (lengthsOf t) → unsound (judgedOf (callOf t d) .device) ≡ false
       judging a =
           stays-sound (risen (callOf t d)) (t .settings) (factsOf (callOf t d)) (passed-sound (timed (callOf t d)) _ (passed-sound d (t .signals .elapsed) u)) (a .fair)
           (stays-idle (timed (callOf t d)) _)

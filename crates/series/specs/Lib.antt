@@ -1,4 +1,3 @@
 pub mod Turns
 pub mod Series
-pub mod Bytes
 pub mod Promises

@@ -6,15 +6,15 @@ use mathlib.Core.List.{List, [], _∷_, _++_, map}
 use mathlib.Core.Logic.{_≢_}
 use mathlib.Core.Path.{_≡_}
 use lib.ListN.{length, getD}
-use Rattle.sheet.specs.declared.device.Device.{Device}
-use Rattle.sheet.specs.Device.{awake, unsound}
-use Rattle.memory.specs.Operations.{Operation}
-use Rattle.lent.specs.declared.refusal.Lengths.{Lengths}
+use Rattle.device.specs.declared.Device.{Device}
+use Rattle.device.specs.Device.{awake, unsound}
+use Rattle.operations.specs.Operations.{Operation}
+use Rattle.calls.specs.declared.Lengths.{Lengths}
 use Rattle.part.specs.Frame.{Call, Reply, Result, Meets, call, lent, refused, replied, frame}
 use Rattle.part.specs.Effect.{takesEffect, operationOf}
 use Rattle.series.specs.Turns.{Turn, replyTo, replies, operations, lastRecord}
 use Rattle.series.specs.Series.{Step, State, Made, turnsOf, lentTo, left, results, end, madeOf, Ran}
-use Rattle.series.specs.Bytes.{Program, applied, since, bytesAt, andAll, startAt, programOf, allWork}
+use Rattle.operations.specs.Bytes.{Program, applied, since, bytesAt, andAll, startAt, programOf, allWork}
 
 -- the operations that took effect in a series of steps
 abbrev pub effects : List Step → State → List Operation

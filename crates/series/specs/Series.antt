@@ -5,8 +5,8 @@ use lib.ListN.{length, getD, replicate}
 use Rattle.runs.specs.Run as run
 use Rattle.cells.specs.Each.{each, stored}
 use Rattle.cells.specs.Range.{range}
-use Rattle.sheet.specs.declared.device.Device.{Device}
-use Rattle.part.specs.declared.frame.Answer.{Answer}
+use Rattle.device.specs.declared.Device.{Device}
+use Rattle.part.specs.declared.Answer.{Answer}
 use Rattle.part.specs.Frame.{Lent, Result, lent, frame}
 use Rattle.part.specs.Frame as part
 use Rattle.series.specs.Turns.{Turn, callOf}
@@ -76,7 +76,7 @@ pub record Made : Type 0 where
 abbrev pub madeOf : Made → Result
 madeOf c = part.resultOf (c .answer) (c .lent)
 
--- The code ran the series and left the last state: each call meets the contract of `part::frame::frame` with the record that the call
+-- The code ran the series and left the last state: each call meets the contract of `part::frame` with the record that the call
 -- before it returned and the memories that it left.
 abbrev pub Ran : List Step → State → List Made → State → Type 0
 Ran ss t cs u = run.Ran resultOf left madeOf ss t cs u

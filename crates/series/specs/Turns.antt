@@ -6,11 +6,11 @@ use mathlib.Core.Bool.{cond}
 use mathlib.Core.List.{List, [], _∷_}
 use lib.ListN.{length}
 use Rattle.runs.specs.Run as run
-use Rattle.sheet.specs.declared.device.Device.{Device}
+use Rattle.device.specs.declared.Device.{Device}
 use Rattle.settings.specs.declared.Settings.{Settings}
-use Rattle.lent.specs.declared.refusal.Lengths.{Lengths}
-use Rattle.input.specs.declared.Signals.{Signals}
-use Rattle.memory.specs.Operations.{Operation}
+use Rattle.calls.specs.declared.Lengths.{Lengths}
+use Rattle.calls.specs.declared.Signals.{Signals}
+use Rattle.operations.specs.Operations.{Operation}
 use Rattle.part.specs.Frame.{Call, Reply, call, replied}
 use Rattle.part.specs.Effect.{takesEffect, operationOf}
 

@@ -4,7 +4,7 @@ use mathlib.Core.Bool.{true, cond}
 use mathlib.Core.List.{List}
 use lib.Dec.{ltb}
 use lib.ListN.{length}
-use Rattle.sheet.specs.declared.device.Device.{Device}
+use Rattle.device.specs.declared.Device.{Device}
 use Rattle.settings.specs.declared.Settings.{Settings}
 use Rattle.part.specs.Frame.{Lent, Result, call, frame}
 

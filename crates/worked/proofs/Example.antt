@@ -8,19 +8,19 @@ use native.Mathlib.Omega.{arith}
 use lib.ListN.{getD, take}
 use Rattle.runs.specs.Run as run
 use Rattle.cells.specs.Each.{over}
-use Rattle.cells.specs.Page.{covered, last}
+use Rattle.pages.specs.Page.{covered, last}
 use Rattle.cells.proofs.Places.{getD-each}
 use Rattle.opcodes.specs.Rows.{rowOf, rows, lookup}
-use Rattle.sheet.specs.Judging.{judged, byOpcode}
+use Rattle.judge.specs.Judging.{judged, byOpcode}
 use Rattle.settings.specs.Settings.{anyUnfair}
-use Rattle.lent.specs.Refusal.{refusalOf}
-use Rattle.memory.specs.Operations.{Operation}
+use Rattle.calls.specs.Refusal.{refusalOf}
+use Rattle.operations.specs.Operations.{Operation}
 use Rattle.part.specs.Frame.{Reply, Result, judgedOf, numberFor, replied}
 use Rattle.series.specs.Turns.{replies}
 use Rattle.series.specs.Series.{Step, State, Made, turnsOf, results, end, Ran}
-use Rattle.series.specs.Bytes.{applied, erasedIn, since, bytesAt}
+use Rattle.operations.specs.Bytes.{applied, erasedIn, since, bytesAt}
 use Rattle.series.specs.Promises.{effects}
-use Rattle.series.proofs.Applied.{applied-each, through}
+use Rattle.operations.proofs.Applied.{applied-each, through}
 use Rattle.series.proofs.Promises.{promises}
 use Rattle.worked.specs.Example.{Example, ShutOut, steps, begins}
 use Rattle.worked.proofs.Told.{length-blank, getD-blank}

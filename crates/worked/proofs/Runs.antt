@@ -10,7 +10,7 @@ use Rattle.runs.specs.Run as run
 use Rattle.runs.proofs.Laws.{end-forgets, kept}
 use Rattle.cells.specs.Each.{each, stored}
 use Rattle.cells.specs.Range.{range}
-use Rattle.sheet.specs.declared.device.Device.{Device}
+use Rattle.device.specs.declared.Device.{Device}
 use Rattle.output.specs.Output.{Store, readAt}
 use Rattle.part.specs.Frame.{Call, Lent, lent, standsAt, judgedOf, numberFor, frame}
 use Rattle.part.specs.Frame as part

@@ -16,13 +16,13 @@ use Rattle.cells.proofs.Places.{getD-each, each-alike, over-alike}
 use Rattle.cells.proofs.Runs.{range-in, range-before, range-behind}
 use Rattle.opcodes.specs.declared.Source.{Source}
 use Rattle.opcodes.specs.declared.Source.the-variants.{Array, Register, Status, Identity, Legacy}
-use Rattle.sheet.specs.declared.device.Device.{Device}
-use Rattle.sheet.specs.declared.judge.Action.{Action}
-use Rattle.sheet.specs.declared.judge.Judged.{Judged}
-use Rattle.memory.specs.Operations.{Operation, none, program, erase, cellOf}
+use Rattle.device.specs.declared.Device.{Device}
+use Rattle.judge.specs.declared.Action.{Action}
+use Rattle.judge.specs.declared.Judged.{Judged}
+use Rattle.operations.specs.Operations.{Operation, none, program, erase, cellOf}
 use Rattle.output.specs.Output.{Store, store, storeOf, startOf, byteFrom, lineAt, unclocked, readAt}
-use Rattle.series.specs.Bytes.{applied}
-use Rattle.series.proofs.Applied.{applied-joined, applied-each, length-applied, through}
+use Rattle.operations.specs.Bytes.{applied}
+use Rattle.operations.proofs.Applied.{applied-joined, applied-each, length-applied, through}
 use Rattle.worked.specs.Worked.{Piece, blank, painted}
 use Rattle.worked.proofs.Halves.{everywhere, halved, at-each}
 

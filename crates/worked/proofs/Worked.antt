@@ -10,15 +10,15 @@ use lib.Dec.{leb}
 use lib.ListN.{length, getD, length-replicate}
 use Rattle.runs.specs.Run as run
 use Rattle.cells.specs.Each.{each, eachFrom, over}
-use Rattle.cells.specs.Page.{covered, last}
+use Rattle.pages.specs.Page.{covered, last}
 use Rattle.opcodes.specs.Rows.{rowOf, rows, lookup}
-use Rattle.sheet.specs.Judging.{judged, byOpcode}
+use Rattle.judge.specs.Judging.{judged, byOpcode}
 use Rattle.settings.specs.Settings.{anyUnfair}
-use Rattle.lent.specs.Refusal.{refusalOf}
+use Rattle.calls.specs.Refusal.{refusalOf}
 use Rattle.output.specs.Output.{readAt}
 use Rattle.part.specs.Frame.{judgedOf, numberFor, replied}
 use Rattle.series.specs.Series.{State, results, end}
-use Rattle.series.proofs.Applied.{through}
+use Rattle.operations.proofs.Applied.{through}
 use Rattle.worked.specs.Worked.{Exchange, Came, Row, Worked, EachWorked, Piece, blank, canary, stepOf, stepsOf, startOf, cameOf, painted}
 use Rattle.worked.specs.Table.{table}
 use Rattle.worked.specs.Further.{further}

@@ -7,10 +7,10 @@ use mathlib.Core.Logic.{_≢_}
 use mathlib.Core.Path.{_≡_}
 use lib.ListN.{length, getD, take, replicate}
 use Rattle.settings.specs.Settings.{typical}
-use Rattle.memory.specs.Operations.{program, erase}
+use Rattle.operations.specs.Operations.{program, erase}
 use Rattle.part.specs.Frame.{Result}
 use Rattle.series.specs.Series.{Step, State, results, end}
-use Rattle.series.specs.Bytes.{applied, since, bytesAt}
+use Rattle.operations.specs.Bytes.{applied, since, bytesAt}
 use Rattle.series.specs.Promises.{effects}
 use Rattle.worked.specs.Worked.{blank}
 use Rattle.worked.specs.Words.{idle}

@@ -2,16 +2,17 @@
 use Prim.Native.Nat.{ℕ}
 use mathlib.Core.Bool.{Bool, true, false}
 use mathlib.Core.List.{List, [], _∷_}
-use Rattle.sheet.specs.declared.device.Device.{Device}
-use Rattle.sheet.specs.declared.device.Mode.{Mode}
-use Rattle.sheet.specs.declared.device.Mode.the-variants.{Awake, Deep, UltraDeep}
+use Rattle.device.specs.declared.Device.{Device}
+use Rattle.device.specs.declared.Mode.{Mode}
+use Rattle.device.specs.declared.Mode.the-variants.{Awake, Deep, UltraDeep}
+use Rattle.device.specs.Device.{fresh, withWel, withRste, withUsed, withMode, withBusy}
 use Rattle.settings.specs.Settings.{typical}
-use Rattle.worked.specs.Worked.{Exchange, Piece, Row}
-use Rattle.worked.specs.Words.{stands, idle, enabled, busy, clocked, whole, low, came, quiet, refused, _⇒_, piece, row}
+use Rattle.worked.specs.Worked.{Exchange, Row}
+use Rattle.worked.specs.Words.{stands, idle, enabled, busy, clocked, whole, low, came, quiet, begun, refused, _⇒_, piece, row}
 
 -- a record of a part that is not protected, with all else said
 abbrev told : Bool → Bool → Bool → Mode → ℕ → Device
-told wel rste used mode busy = record { bpl = false; bp0 = false; wel = wel; rste = rste; used = used; mode = mode; busy = busy }
+told wel rste used mode busy = withBusy (withMode (withRste (withWel (fresh false false used) wel) rste) mode) busy
 
 -- 03 and 0B: data from position 4, or 5; a read too short to drive anything is a read
 abbrev reads : Row
@@ -104,30 +105,30 @@ protected =
           (whole (0xC7 ∷ []) 0 ⇒ quiet "aborted" (stands false true false 0) 1) ∷
           (whole (0x06 ∷ []) 0 ⇒ quiet "control" (stands false true true 0) 1) ∷
           (whole (0x9B ∷ 0x00 ∷ 0x00 ∷ 0x02 ∷ 0x77 ∷ []) 0 ⇒
-          quiet "begun" (record { bpl = false; bp0 = true; wel = false; rste = false; used = true; mode = Awake; busy = 400 }) 5) ∷
+          quiet "begun" (withUsed (stands false true false 400) true) 5) ∷
           [];
       array = [];
       register = piece 2 3 0x77 ∷ [];
     }
 
 -- the other erases and their durations: 81, 52 and the three of the whole chip, with any address bytes
-abbrev erases : ℕ → List ℕ → ℕ → ℕ → List Piece → Row
-erases code address n ticks array = row enabled 0x00 ((whole (code ∷ address) 0 ⇒ quiet "begun" (busy ticks) n) ∷ []) array
+abbrev erases : ℕ → List ℕ → ℕ → ℕ → ℕ → ℕ → Row
+erases code address n ticks from to = row enabled 0x00 ((whole (code ∷ address) 0 ⇒ begun from to (busy ticks) n) ∷ []) (piece from to 0xFF ∷ [])
 
 abbrev page-erase : Row
-page-erase = erases 0x81 (0x00 ∷ 0x12 ∷ 0x34 ∷ []) 4 7000 (piece 0x1200 0x1300 0xFF ∷ [])
+page-erase = erases 0x81 (0x00 ∷ 0x12 ∷ 0x34 ∷ []) 4 7000 0x1200 0x1300
 
 abbrev large-erase : Row
-large-erase = erases 0x52 (0x00 ∷ 0x80 ∷ 0x01 ∷ []) 4 400000 (piece 0x8000 0x10000 0xFF ∷ [])
+large-erase = erases 0x52 (0x00 ∷ 0x80 ∷ 0x01 ∷ []) 4 400000 0x8000 0x10000
 
 abbrev chip-erase-60 : Row
-chip-erase-60 = erases 0x60 [] 1 1600000 (piece 0 0x20000 0xFF ∷ [])
+chip-erase-60 = erases 0x60 [] 1 1600000 0 0x20000
 
 abbrev chip-erase-c7 : Row
-chip-erase-c7 = erases 0xC7 (0x12 ∷ 0x34 ∷ 0x56 ∷ []) 4 1600000 (piece 0 0x20000 0xFF ∷ [])
+chip-erase-c7 = erases 0xC7 (0x12 ∷ 0x34 ∷ 0x56 ∷ []) 4 1600000 0 0x20000
 
 abbrev chip-erase-62 : Row
-chip-erase-62 = erases 0x62 [] 1 1600000 (piece 0 0x20000 0xFF ∷ [])
+chip-erase-62 = erases 0x62 [] 1 1600000 0 0x20000
 
 -- 9B and 77: the data wraps in the user's 64 bytes, the read at 128; a second OTP program is aborted
 abbrev otp : Row
@@ -156,7 +157,7 @@ reset =
     row enabled 0x00
     ((whole (0x31 ∷ 0x10 ∷ []) 0 ⇒ quiet "control" (told false true false Awake 0) 2) ∷
     (whole (0x06 ∷ []) 0 ⇒ quiet "control" (told true true false Awake 0) 1) ∷
-    (whole (0x20 ∷ 0x00 ∷ 0x00 ∷ 0x00 ∷ []) 0 ⇒ quiet "begun" (told false true false Awake 50000) 4) ∷
+    (whole (0x20 ∷ 0x00 ∷ 0x00 ∷ 0x00 ∷ []) 0 ⇒ begun 0 0x1000 (told false true false Awake 50000) 4) ∷
     (whole (0x03 ∷ 0x00 ∷ 0x00 ∷ 0x00 ∷ 0x00 ∷ []) 1 ⇒ quiet "nothing" (told false true false Awake 49999) 5) ∷
     (whole (0x06 ∷ []) 0 ⇒ quiet "nothing" (told false true false Awake 49999) 1) ∷
     (whole (0x05 ∷ 0x00 ∷ 0x00 ∷ []) 0 ⇒ came "read" 1 2 (told false true false Awake 49999) (0xFF ∷ 0x11 ∷ 0x11 ∷ [])) ∷
@@ -181,13 +182,15 @@ deep =
     [])
     []
 
+-- a record in which BPL, BP0 and the OTP-used mark are up
+abbrev protecting : Bool → Bool → Mode → Device
+protecting wel rste mode = withMode (withRste (withWel (fresh true true true) wel) rste) mode
+
 -- ultra-deep power-down: any frame wakes the part, and WEL and RSTE are lost; BPL and BP0 stay
 abbrev ultra : Row
 ultra =
-    row (record { bpl = true; bp0 = true; wel = true; rste = true; used = true; mode = Awake; busy = 0 }) 0xFF
-    ((whole (0x79 ∷ []) 0 ⇒ quiet "control" (record { bpl = true; bp0 = true; wel = true; rste = true; used = true; mode = UltraDeep; busy = 0 }) 1) ∷
-    (whole [] 0 ⇒ quiet "control" (record { bpl = true; bp0 = true; wel = false; rste = false; used = true; mode = Awake; busy = 0 }) 0) ∷
-    [])
+    row (protecting true true Awake) 0xFF
+    ((whole (0x79 ∷ []) 0 ⇒ quiet "control" (protecting true true UltraDeep) 1) ∷ (whole [] 0 ⇒ quiet "control" (protecting false false Awake) 0) ∷ [])
     []
 
 -- 01 while BPL is 1: aborted with WP low; with WP high BPL alone is written

@@ -3,10 +3,10 @@
 use Prim.Native.Nat.{ℕ}
 use mathlib.Core.Bool.{Bool, true, false}
 use mathlib.Core.List.{List, [], _∷_}
-use Rattle.sheet.specs.declared.device.Device.{Device}
-use Rattle.sheet.specs.declared.device.Mode.the-variants.{Awake}
+use Rattle.device.specs.declared.Device.{Device}
+use Rattle.device.specs.Device.{fresh, withWel, withRste, withBusy}
 use Rattle.worked.specs.Worked.{Sent, Row}
-use Rattle.worked.specs.Words.{idle, enabled, busy, clocked, whole, low, paced, came, quiet, refused, _⇒_, piece, row}
+use Rattle.worked.specs.Words.{idle, enabled, busy, clocked, whole, low, paced, came, quiet, begun, refused, _⇒_, piece, row}
 
 -- a status read of five status bytes, at 8 ticks a position: 48 ticks in all
 abbrev poll : Sent
@@ -39,7 +39,7 @@ does-not-fall =
 
 -- a record in which BPL, BP0, WEL and RSTE are up
 abbrev all-up : ℕ → Device
-all-up busy = record { bpl = true; bp0 = true; wel = true; rste = true; used = false; mode = Awake; busy = busy }
+all-up busy = withBusy (withRste (withWel (fresh true true false) true) true) busy
 
 -- nothing else moves: these four are shown as they stand, with WP low, at 8 and 16 ticks busy, at 24 not
 abbrev others-stand : Row
@@ -72,14 +72,14 @@ heard = row (busy 10) 0xFF ((paced 8 (whole (0x06 ∷ []) 10) ⇒ quiet "control
 abbrev begins-at-the-rise : Row
 begins-at-the-rise =
     row enabled 0xFF
-    ((paced 1000 (whole (0x02 ∷ 0x00 ∷ 0x00 ∷ 0x00 ∷ 0x5A ∷ []) 0) ⇒ quiet "begun" (busy 12) 5) ∷
+    ((paced 1000 (whole (0x02 ∷ 0x00 ∷ 0x00 ∷ 0x00 ∷ 0x5A ∷ []) 0) ⇒ begun 0 0x100 (busy 12) 5) ∷
     (paced 2 (whole (0x05 ∷ 0x00 ∷ 0x00 ∷ []) 3) ⇒ came "read" 1 2 (busy 3) (0xFF ∷ 0x11 ∷ 0x01 ∷ [])) ∷
     [])
     (piece 0 1 0x5A ∷ [])
 
 -- a record in which RSTE is up, and WEL as said
 abbrev resettable : Bool → ℕ → Device
-resettable wel busy = record { bpl = false; bp0 = false; wel = wel; rste = true; used = false; mode = Awake; busy = busy }
+resettable wel busy = withBusy (withRste (withWel (fresh false false false) wel) true) busy
 
 -- a reset leaves the part idle and WEL 0; one that is not confirmed takes its ticks and no more
 abbrev resets : Row

@@ -5,7 +5,7 @@ use mathlib.Core.List.{List, [], _∷_}
 use lib.ListN.{replicate}
 use Rattle.settings.specs.declared.Settings.{Settings}
 use Rattle.worked.specs.Worked.{Row}
-use Rattle.worked.specs.Words.{stands, idle, enabled, busy, clocked, whole, low, came, quiet, refused, _⇒_, piece, row}
+use Rattle.worked.specs.Words.{stands, idle, enabled, busy, clocked, whole, low, came, quiet, begun, refused, _⇒_, piece, row}
 
 -- P1: after 06 a status read gives 12 00 12
 abbrev p1 : Row
@@ -21,7 +21,7 @@ abbrev p2 : Row
 p2 =
     row idle 0xFF
     ((whole (0x06 ∷ []) 0 ⇒ quiet "control" enabled 1) ∷
-    (whole (0x02 ∷ 0x00 ∷ 0x00 ∷ 0xFE ∷ 0x11 ∷ 0x22 ∷ 0x33 ∷ []) 0 ⇒ quiet "begun" (busy 2000) 7) ∷
+    (whole (0x02 ∷ 0x00 ∷ 0x00 ∷ 0xFE ∷ 0x11 ∷ 0x22 ∷ 0x33 ∷ []) 0 ⇒ begun 0 0x100 (busy 2000) 7) ∷
     [])
     (piece 0xFE 0xFF 0x11 ∷ piece 0xFF 0x100 0x22 ∷ piece 0 1 0x33 ∷ [])
 
@@ -30,9 +30,9 @@ abbrev p3 : Row
 p3 =
     row idle 0xFF
     ((whole (0x06 ∷ []) 0 ⇒ quiet "control" enabled 1) ∷
-    (whole (0x02 ∷ 0x00 ∷ 0x12 ∷ 0x34 ∷ 0x0F ∷ []) 0 ⇒ quiet "begun" (busy 12) 5) ∷
+    (whole (0x02 ∷ 0x00 ∷ 0x12 ∷ 0x34 ∷ 0x0F ∷ []) 0 ⇒ begun 0x1200 0x1300 (busy 12) 5) ∷
     (whole (0x06 ∷ []) 12 ⇒ quiet "control" enabled 1) ∷
-    (whole (0x02 ∷ 0x00 ∷ 0x12 ∷ 0x34 ∷ 0xF3 ∷ []) 0 ⇒ quiet "begun" (busy 12) 5) ∷
+    (whole (0x02 ∷ 0x00 ∷ 0x12 ∷ 0x34 ∷ 0xF3 ∷ []) 0 ⇒ begun 0x1200 0x1300 (busy 12) 5) ∷
     [])
     (piece 0x1234 0x1235 0x03 ∷ [])
 
@@ -42,29 +42,29 @@ p4-short = row enabled 0xFF ((clocked 39 (0x02 ∷ 0x00 ∷ 0x00 ∷ 0x00 ∷ 0x
 
 abbrev p4-whole : Row
 p4-whole =
-    row enabled 0xFF ((clocked 40 (0x02 ∷ 0x00 ∷ 0x00 ∷ 0x00 ∷ 0x00 ∷ []) 0 ⇒ quiet "begun" (busy 12) 5) ∷ []) (piece 0 1 0x00 ∷ [])
+    row enabled 0xFF ((clocked 40 (0x02 ∷ 0x00 ∷ 0x00 ∷ 0x00 ∷ 0x00 ∷ []) 0 ⇒ begun 0 0x100 (busy 12) 5) ∷ []) (piece 0 1 0x00 ∷ [])
 
 -- P5: of 257 data bytes the last 256 count
 abbrev p5 : Row
 p5 =
     row enabled 0xFF
-    ((whole (0x02 ∷ 0x00 ∷ 0x00 ∷ 0x00 ∷ 0xAA ∷ replicate 256 0x55) 0 ⇒ quiet "begun" (busy 2000) 261) ∷ [])
+    ((whole (0x02 ∷ 0x00 ∷ 0x00 ∷ 0x00 ∷ 0xAA ∷ replicate 256 0x55) 0 ⇒ begun 0 0x100 (busy 2000) 261) ∷ [])
     (piece 0 256 0x55 ∷ [])
 
 -- P6: an erase covers the 4 KiB, or the 32 KiB, around its address, and nothing else
 abbrev p6-small : Row
-p6-small = row enabled 0x00 ((whole (0x20 ∷ 0x00 ∷ 0x1F ∷ 0xFF ∷ []) 0 ⇒ quiet "begun" (busy 50000) 4) ∷ []) (piece 0x1000 0x2000 0xFF ∷ [])
+p6-small = row enabled 0x00 ((whole (0x20 ∷ 0x00 ∷ 0x1F ∷ 0xFF ∷ []) 0 ⇒ begun 0x1000 0x2000 (busy 50000) 4) ∷ []) (piece 0x1000 0x2000 0xFF ∷ [])
 
 abbrev p6-large : Row
-p6-large = row enabled 0x00 ((whole (0xD8 ∷ 0x01 ∷ 0x7F ∷ 0xFF ∷ []) 0 ⇒ quiet "begun" (busy 400000) 4) ∷ []) (piece 0x10000 0x18000 0xFF ∷ [])
+p6-large = row enabled 0x00 ((whole (0xD8 ∷ 0x01 ∷ 0x7F ∷ 0xFF ∷ []) 0 ⇒ begun 0x10000 0x18000 (busy 400000) 4) ∷ []) (piece 0x10000 0x18000 0xFF ∷ [])
 
 -- P7: 020000h names byte 0 and FFFFFFh the last byte, behind which a read goes on with byte 0
 abbrev p7 : Row
 p7 =
     row enabled 0xFF
-    ((whole (0x02 ∷ 0x02 ∷ 0x00 ∷ 0x00 ∷ 0x5A ∷ []) 0 ⇒ quiet "begun" (busy 12) 5) ∷
+    ((whole (0x02 ∷ 0x02 ∷ 0x00 ∷ 0x00 ∷ 0x5A ∷ []) 0 ⇒ begun 0 0x100 (busy 12) 5) ∷
     (whole (0x06 ∷ []) 12 ⇒ quiet "control" enabled 1) ∷
-    (whole (0x02 ∷ 0xFF ∷ 0xFF ∷ 0xFF ∷ 0xA5 ∷ []) 0 ⇒ quiet "begun" (busy 12) 5) ∷
+    (whole (0x02 ∷ 0xFF ∷ 0xFF ∷ 0xFF ∷ 0xA5 ∷ []) 0 ⇒ begun 0x1FF00 0x20000 (busy 12) 5) ∷
     (whole (0x03 ∷ 0xFF ∷ 0xFF ∷ 0xFF ∷ 0x00 ∷ 0x00 ∷ 0x00 ∷ []) 12 ⇒
     came "read" 4 3 idle (0xFF ∷ 0xFF ∷ 0xFF ∷ 0xFF ∷ 0xA5 ∷ 0x5A ∷ 0xFF ∷ [])) ∷
     [])
@@ -104,7 +104,7 @@ session =
       holds = 0xFF;
       exchanges =
           (whole (0x06 ∷ []) 0 ⇒ quiet "control" enabled 1) ∷
-          (whole (0x02 ∷ 0x00 ∷ 0x00 ∷ 0xFE ∷ 0x11 ∷ 0x22 ∷ 0x33 ∷ []) 1 ⇒ quiet "begun" (busy 2000) 7) ∷
+          (whole (0x02 ∷ 0x00 ∷ 0x00 ∷ 0xFE ∷ 0x11 ∷ 0x22 ∷ 0x33 ∷ []) 1 ⇒ begun 0 0x100 (busy 2000) 7) ∷
           (whole (0x05 ∷ 0x00 ∷ 0x00 ∷ []) 1 ⇒ came "read" 1 2 (busy 1999) (0xFF ∷ 0x11 ∷ 0x01 ∷ [])) ∷
           (whole (0x03 ∷ 0x00 ∷ 0x00 ∷ 0xFE ∷ 0x00 ∷ 0x00 ∷ 0x00 ∷ []) 2000 ⇒
           came "read" 4 3 idle (0xFF ∷ 0xFF ∷ 0xFF ∷ 0xFF ∷ 0x11 ∷ 0x22 ∷ 0xFF ∷ [])) ∷
@@ -129,7 +129,7 @@ longest =
       device = enabled;
       size = 131072;
       holds = 0x00;
-      exchanges = (whole (0x60 ∷ []) 0 ⇒ quiet "begun" (busy 60000000) 1) ∷ [];
+      exchanges = (whole (0x60 ∷ []) 0 ⇒ begun 0 131072 (busy 60000000) 1) ∷ [];
       array = piece 0 131072 0xFF ∷ [];
       register = [];
     }

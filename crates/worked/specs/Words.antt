@@ -4,14 +4,16 @@ use Prim.Native.String.{String}
 use mathlib.Core.Bool.{Bool, true, false}
 use mathlib.Core.List.{List, [], _∷_, _++_}
 use lib.ListN.{length, replicate}
-use Rattle.sheet.specs.declared.device.Device.{Device}
-use Rattle.sheet.specs.declared.device.Mode.the-variants.{Awake}
+use Rattle.device.specs.declared.Device.{Device}
+use Rattle.device.specs.Device.{fresh, withWel, withBusy}
 use Rattle.settings.specs.Settings.{typical}
+use Rattle.operations.specs.declared.Range.{Range}
+use Rattle.operations.specs.Operations.{span}
 use Rattle.worked.specs.Worked.{Sent, Came, Exchange, Piece, Row, canary}
 
 -- a record: BPL, BP0, WEL and the busy ticks; RSTE and the OTP-used mark clear, awake
 abbrev pub stands : Bool → Bool → Bool → ℕ → Device
-stands bpl bp0 wel busy = record { bpl = bpl; bp0 = bp0; wel = wel; rste = false; used = false; mode = Awake; busy = busy }
+stands bpl bp0 wel busy = withBusy (withWel (fresh bpl bp0 false) wel) busy
 
 -- nothing protected: idle, write-enabled, or busy
 abbrev pub idle : Device
@@ -37,19 +39,29 @@ low bytes elapsed = record { bytes = bytes; bits = 8 * length bytes; wp = false;
 abbrev pub paced : ℕ → Sent → Sent
 paced pace s = record { bytes = s .bytes; bits = s .bits; wp = s .wp; elapsed = s .elapsed; pace = pace }
 
--- what comes back from an accepted call; the byte behind the frame's last is not written
+-- what comes back: the number, the outcome, the driven positions, the range of the array that was covered, and the record
+abbrev replies : ℕ → String → ℕ → ℕ → Range → Device → List ℕ → Came
+replies number outcome first driven covered d output =
+    record {
+      reply = record { refusal = number; outcome = outcome; first = first; driven = driven; covered = covered; device = d };
+      output = output ++ (canary ∷ []);
+    }
+
+-- from an accepted call that covers nothing; the byte after the frame's last is not written
 abbrev pub came : String → ℕ → ℕ → Device → List ℕ → Came
-came outcome first driven d output =
-    record { reply = record { refusal = 0; outcome = outcome; first = first; driven = driven; device = d }; output = output ++ (canary ∷ []) }
+came outcome first driven d output = replies 0 outcome first driven (span 0 0) d output
 
 -- nothing driven: n bytes of FFh
 abbrev pub quiet : String → Device → ℕ → Came
 quiet outcome d n = came outcome 0 0 d (replicate n 0xFF)
 
+-- an operation on the array was begun that covers the places from `from` up to `to`
+abbrev pub begun : ℕ → ℕ → Device → ℕ → Came
+begun from to d n = replies 0 "begun" 0 0 (span from to) d (replicate n 0xFF)
+
 -- from a refused one: the record as it came in, and the n bytes and one more as they were
 abbrev pub refused : ℕ → Device → ℕ → Came
-refused number d n =
-    record { reply = record { refusal = number; outcome = "nothing"; first = 0; driven = 0; device = d }; output = replicate n canary ++ (canary ∷ []) }
+refused number d n = replies number "nothing" 0 0 (span 0 0) d (replicate n canary)
 
 infixr 5 _⇒_
 abbrev pub _⇒_ : Sent → Came → Exchange

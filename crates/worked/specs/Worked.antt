@@ -6,7 +6,7 @@ use mathlib.Core.Path.{_≡_}
 use lib.ListN.{length, replicate}
 use Rattle.cells.specs.Each.{Cell, each}
 use Rattle.cells.specs.Range.{range}
-use Rattle.sheet.specs.declared.device.Device.{Device}
+use Rattle.device.specs.declared.Device.{Device}
 use Rattle.settings.specs.declared.Settings.{Settings}
 use Rattle.part.specs.Frame.{Reply, Result}
 use Rattle.series.specs.Series.{Step, State, results, end}

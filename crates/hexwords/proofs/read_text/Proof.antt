@@ -1,16 +1,20 @@
 -- `hexwords::read_text` meets its contract: one word, or 255. Assumes nothing.
+use mathlib.Core.Path.{ap}
 use borrow.Author.Needs.{needs}
 use Rattle.hexwords.proofs.read_text.Statement.{statement}
 use Rattle.hexwords.proofs.read_text.Tie as tie
 use denote.Ref.{now}
+use Rattle.ihex_read.specs.Reader.{Told}
 use Rattle.hexwords.specs.Words.{textIn}
 use Rattle.hexwords.proofs.Kept.{answers, passes-over}
 
 returns : tie.Need-returns
 unfolding textIn
 returns c =
-    let told = c .before .before .before .read .ensures in
-    rw (c .wide .ensures, told .0, told .1) (answers (now (c .before .before .before .before .before .before .before .before .before .args .place)) _ _ _ _ (c .before .before .before .before .before .if1 .taken))
+    let done = c .before .before .before .before .read .ensures in
+    let before = c .before .before .before .before .before .before in
+    rw (c .wide .ensures, c .before .number .ensures, ap (λ (t : Told). t .refusal) (done .0), ap (λ (t : Told). t .place) (done .0), done .1)
+    (answers (now (before .before .before .before .before .args .place)) _ _ _ _ (before .if1 .taken))
 
 returns-2 : tie.Need-returns-2
 unfolding textIn
@@ -22,6 +26,7 @@ read-text-spec =
     (tie.spec
     (λ c κs. search needs)
     (λ c. search needs)
+    (λ c κs. search needs)
     (λ c κs. search needs)
     (λ c. search needs)
     (λ c. search needs)

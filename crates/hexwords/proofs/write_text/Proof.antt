@@ -1,16 +1,20 @@
 -- `hexwords::write_text` meets its contract: one word, or 255. Assumes nothing.
+use mathlib.Core.Path.{ap}
 use borrow.Author.Needs.{needs}
 use Rattle.hexwords.proofs.write_text.Statement.{statement}
 use Rattle.hexwords.proofs.write_text.Tie as tie
 use denote.Ref.{now}
+use Rattle.ihex_write.specs.Writer.{Told}
 use Rattle.hexwords.specs.Words.{textOut}
 use Rattle.hexwords.proofs.Kept.{answers, passes-over}
 
 returns : tie.Need-returns
 unfolding textOut
 returns c =
-    let told = c .before .before .before .write .ensures in
-    rw (c .wide .ensures, told .0, told .1) (answers (now (c .before .before .before .before .before .before .before .before .before .args .characters)) _ _ _ _ (c .before .before .before .before .before .if1 .taken))
+    let done = c .before .before .before .before .write .ensures in
+    let before = c .before .before .before .before .before .before in
+    rw (c .wide .ensures, c .before .number .ensures, ap (λ (t : Told). t .refusal) (done .0), ap (λ (t : Told). t .characters) (done .0), done .1)
+    (answers (now (before .before .before .before .before .args .characters)) _ _ _ _ (before .if1 .taken))
 
 returns-2 : tie.Need-returns-2
 unfolding textOut
@@ -22,6 +26,7 @@ write-text-spec =
     (tie.spec
     (λ c κs. search needs)
     (λ c. search needs)
+    (λ c κs. search needs)
     (λ c κs. search needs)
     (λ c. search needs)
     (λ c. search needs)

@@ -8,7 +8,7 @@ use mathlib.Core.Path.{_≡_, refl, sym, _∙_}
 use native.Mathlib.Omega.{arith}
 use denote.Ref.{now}
 use lib.ListN.{length, drop}
-use Rattle.ihex_write.specs.Layout.{kindOf}
+use Rattle.ihex_layout.specs.Layout.{kindOf}
 use Rattle.ihex_read.specs.Reader.{linesIn, lineAt, malformed, faultOf, carried}
 use Rattle.ihex_read.proofs.Whole.{whole-room, read-byte}
 use Rattle.ihex_read.proofs.Faults.{sound, sound-whole}

@@ -9,7 +9,7 @@ use mathlib.Core.Path.{_≡_, refl, sym, _∙_}
 use native.Mathlib.Omega.{arith}
 use borrow.Author.Tests.{eq-eqb, ne-eqb, not-false}
 use denote.Ref.{now}
-use Rattle.ihex_write.specs.Layout.{addressOf}
+use Rattle.ihex_layout.specs.Layout.{addressOf}
 use Rattle.ihex_read.specs.Reader.{lineAt, isWhole, faultOf}
 use Rattle.ihex_read.proofs.Whole.{whole-room, read-byte}
 use Rattle.ihex_read.proofs.Faults.{faultBy, fault-by}

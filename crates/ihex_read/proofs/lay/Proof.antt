@@ -8,7 +8,7 @@ use native.Mathlib.Omega.{arith}
 use denote.Ref.{now}
 use lib.ListN.{length, drop}
 use Rattle.cells.proofs.Runs.{Reached, begins, goes-on, ends, same-long}
-use Rattle.ihex_write.specs.Layout.{lengthOf, dataAt, asked}
+use Rattle.ihex_layout.specs.Layout.{lengthOf, dataAt, asked}
 use Rattle.ihex_read.specs.Reader.{lineAt}
 use Rattle.ihex_read.proofs.Whole.{whole-room, byte-small, read-byte}
 

@@ -9,7 +9,7 @@ use mathlib.Core.Path.{_≡_, sym, _∙_}
 use native.Mathlib.Omega.{arith}
 use borrow.Author.Tests.{eq-eqb, ne-eqb}
 use denote.Ref.{now}
-use Rattle.ihex_write.specs.Layout.{kindOf}
+use Rattle.ihex_layout.specs.Layout.{kindOf}
 use Rattle.ihex_read.specs.Reader.{lineAt, isWhole, startOf, obeyed}
 use Rattle.ihex_read.proofs.Whole.{whole-room, read-byte}
 use Rattle.ihex_read.proofs.Faults.{sound, sound-whole, data-inside}

@@ -11,7 +11,7 @@ use borrow.Author.Tests.{not-true, not-false, ltb-true}
 use denote.Ref.{now}
 use lib.Dec.{eqb}
 use lib.ListN.{getD, drop}
-use Rattle.ihex_write.specs.Layout.{colon, lengthOf, sumOf}
+use Rattle.ihex_layout.specs.Layout.{colon, lengthOf, sumOf}
 use Rattle.ihex_read.proofs.Whole.{middle, found, too-short-at, no-length-at, same-sum}
 
 -- the text from the line on

@@ -8,7 +8,7 @@ use native.Mathlib.Numerals.{add-one}
 use native.Mathlib.Omega.{arith}
 use borrow.Author.Tests.{ltb-true}
 use lib.ListN.{drop}
-use Rattle.ihex_write.specs.Layout.{sumOf}
+use Rattle.ihex_layout.specs.Layout.{sumOf}
 use Rattle.ihex_read.specs.Reader.{pairs}
 
 abbrev Inv-loop : tie.InvT-loop

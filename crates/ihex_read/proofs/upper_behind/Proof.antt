@@ -8,7 +8,7 @@ use native.Mathlib.Omega.{arith}
 use borrow.Author.Tests.{ne-eqb}
 use denote.Ref.{now}
 use lib.ListN.{drop}
-use Rattle.ihex_write.specs.Layout.{lengthOf}
+use Rattle.ihex_layout.specs.Layout.{lengthOf}
 use Rattle.ihex_read.proofs.Whole.{whole-room, byte-small, same-byte, read-byte}
 use Rattle.ihex_read.proofs.Faults.{sound-whole, sound-upper}
 

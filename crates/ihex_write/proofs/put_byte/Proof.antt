@@ -3,7 +3,7 @@ use native.Mathlib.Numerals.{add-one}
 use native.Mathlib.Omega.{arith}
 use borrow.Author.Needs.{needs}
 use lib.ListN.{length-set}
-use Rattle.ihex_write.specs.Layout.{digits}
+use Rattle.ihex_layout.specs.Layout.{digits}
 use Rattle.ihex_write.proofs.put_byte.Statement.{statement}
 use Rattle.ihex_write.proofs.put_byte.Tie as tie
 

@@ -6,8 +6,8 @@ use borrow.Author.Needs.{needs}
 use borrow.Author.Tests.{not-true, not-false, lt-ltb, le-ltb}
 use lib.Dec.{ltb}
 use lib.ListN.{length}
-use Rattle.sizes.specs.Sizes.{isArray}
-use Rattle.sizes.proofs.Long.{array-long}
+use Rattle.memories.specs.Sizes.{isArray}
+use Rattle.memories.proofs.Long.{array-long}
 use Rattle.ihex_write.specs.Writer.{textOf, writtenOf, outputOf}
 use Rattle.ihex_write.proofs.Lengths.{text-length}
 use Rattle.ihex_write.proofs.write.Statement.{statement}

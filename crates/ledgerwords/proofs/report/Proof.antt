@@ -4,9 +4,9 @@ use mathlib.Core.Path.{ap, _∙_}
 use borrow.Author.Needs.{needs}
 use borrow.Author.Tests.{eq-eqb, ne-eqb}
 use lib.Dec.{eqb}
-use Rattle.lent.specs.Refusal.{numberOf}
-use Rattle.accounts.specs.declared.Reported.{Reported}
-use Rattle.accounts.specs.Ledger.{reported}
+use Rattle.refusals.specs.Refusals.{numberOf}
+use Rattle.ledger.specs.declared.Reported.{Reported}
+use Rattle.ledger.specs.Ledger.{reported}
 use Rattle.ledgerwords.proofs.report.Statement.{statement}
 use Rattle.ledgerwords.proofs.report.Tie as tie
 

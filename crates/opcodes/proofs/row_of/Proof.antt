@@ -6,7 +6,7 @@ use borrow.Author.Needs.{needs}
 use lib.ListN.{drop}
 use Rattle.opcodes.specs.Rows.{rows, lookup, rowOf}
 use Rattle.opcodes.proofs.Lookup.{sought, here, next}
-use Rattle.opcodes.proofs.Search.{at-end}
+use Rattle.numbers.proofs.Search.{at-end}
 use Rattle.opcodes.proofs.row_of.Statement.{statement}
 use Rattle.opcodes.proofs.row_of.Tie as tie
 

@@ -1,7 +1,7 @@
 -- `output::send` meets its contract: each source but the status is a memory that is copied out, from an address or from its first
 -- byte. Assumes nothing.
 use borrow.Author.Needs.{needs}
-use Rattle.input.specs.Address.{addressOf}
+use Rattle.calls.specs.Address.{addressOf}
 use Rattle.output.proofs.Lines.{from-address}
 use Rattle.output.proofs.send.Statement.{statement}
 use Rattle.output.proofs.send.Tie as tie

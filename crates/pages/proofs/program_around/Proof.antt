@@ -5,7 +5,7 @@ use native.Mathlib.Omega.{arith}
 use borrow.Author.Needs.{needs}
 use lib.ListN.{length}
 use Rattle.cells.specs.Each.{each}
-use Rattle.cells.specs.Page.{andedIn}
+use Rattle.pages.specs.Page.{andedIn}
 use Rattle.pages.proofs.Pieces.{part}
 use Rattle.pages.proofs.Ways.{in-runs}
 use Rattle.pages.proofs.program_around.Statement.{statement}

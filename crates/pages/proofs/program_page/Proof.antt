@@ -6,7 +6,7 @@ use mathlib.Core.Path.{_≡_, ap, _∙_}
 use borrow.Author.Needs.{needs}
 use lib.ListN.{length, drop}
 use Rattle.cells.specs.Each.{each}
-use Rattle.cells.specs.Page.{programmed}
+use Rattle.pages.specs.Page.{programmed}
 use Rattle.pages.proofs.Pieces.{part, from-the-end}
 use Rattle.pages.proofs.Ways.{at-once}
 use Rattle.pages.proofs.program_page.Statement.{statement}

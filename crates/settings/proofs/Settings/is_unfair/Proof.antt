@@ -5,7 +5,7 @@ use native.Mathlib.Omega.{arith}
 use borrow.Author.Needs.{needs}
 use lib.ListN.{length, drop}
 use Rattle.settings.specs.Settings.{anyUnfair}
-use Rattle.opcodes.proofs.Search.{from-here, at-end}
+use Rattle.numbers.proofs.Search.{from-here, at-end}
 use Rattle.settings.proofs.Settings.is_unfair.Statement.{statement}
 use Rattle.settings.proofs.Settings.is_unfair.Tie as tie
 

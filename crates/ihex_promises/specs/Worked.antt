@@ -1,0 +1,61 @@
+-- Texts worked by hand. The first three are examples that go round with the published layout. Assumes nothing.
+use Prim.Native.Nat.{ℕ}
+use Prim.Native.Char.{code}
+use Prim.Native.String.{String, [], _∷_}
+use mathlib.Core.List.{List, _++_, [] as nothing, _∷_ as _then_}
+use mathlib.Core.Path.{_≡_}
+use lib.ListN.{replicate}
+use Rattle.ihex_layout.specs.Layout.{recordLine}
+use Rattle.ihex_write.specs.Writer.{written, writtenOf}
+use Rattle.ihex_read.specs.Reader.{Verdict, verdict, linesIn, placeOf, judgedIn, carried, reading, readingOf}
+
+-- the characters of a text
+unfoldable pub characters : String → List ℕ
+characters [] = nothing
+characters (c ∷ text) = code c then characters text
+
+-- the judgement of a text, for the small array
+abbrev pub judgement : String → Verdict
+judgement text = judgedIn (characters text) 65536
+
+-- the place at which a line of a text begins
+abbrev pub place : ℕ → String → ℕ
+place k text = placeOf k (characters text)
+
+pub record Worked : Type 0 where
+  -- the end; the upper part FFFFh; 16 bytes that spell FLUID PROFILE, and NUL, F and L behind it, at 2462h
+  pub the-end : recordLine 0 1 nothing ≡ characters ":00000001FF"
+  pub an-upper-part : recordLine 0 4 (0xFF then 0xFF then nothing) ≡ characters ":02000004FFFFFC"
+  pub sixteen-bytes : recordLine 0x2462 0 (characters "FLUID PROFILE" ++ 0 then characters "FL") ≡ characters ":10246200464C5549442050524F46494C4500464C33"
+  -- two records of which the later one wins, in lower case, with CR LF, and with no ending behind the last: five bytes of FFh become these
+  pub later-wins : carried 0 (linesIn (characters ":0400000001020304f2\r\n:02000100cafe35\n:00000001ff")) (replicate 5 0xFF)
+      ≡ 0x01 then 0xCA then 0xFE then 0x04 then 0xFF then nothing
+  pub both-endings : judgement ":0400000001020304f2\r\n:02000100cafe35\n:00000001ff" ≡ verdict 0 0
+  -- 12: an empty line, a blank, CR without LF, a digit too few, an end record with data (its checksum is wrong too), an upper part of one byte
+  pub empty-line : judgement "\n:00000001FF\n" ≡ verdict 12 0
+  pub a-blank : judgement ":00000001FF \n" ≡ verdict 12 0
+  pub lone-CR : judgement ":00000001FF\r" ≡ verdict 12 0
+  pub too-short : judgement ":0000000000\n:00000001F\n" ≡ verdict 12 1
+  pub end-with-data : judgement ":0100000100FF\n" ≡ verdict 12 0
+  pub short-upper : judgement ":0100000400FB\n" ≡ verdict 12 0
+  -- 13: the checksum is one less than it should be, and the next line, which is none, is not looked at; of another type too
+  pub wrong-sum : judgement ":00000001FE\n:" ≡ verdict 13 0
+  pub wrong-sum-first : judgement ":020000021000EB\n" ≡ verdict 13 0
+  -- 14: an extended segment address
+  pub other-type : judgement ":020000021000EC\n" ≡ verdict 14 0
+  -- the length of another type is not judged, nor the addresses of an end record and an upper part
+  pub other-type-bare : judgement ":00000002FE\n" ≡ verdict 14 0
+  pub addresses-unjudged : judgement ":021234040000B4\n:00123401B9\n" ≡ verdict 0 0
+  -- 15: two bytes at FFFFh, though the large array has both; one byte at 10000h of the small one; a record without data is good anywhere
+  pub past-64-KiB : judgedIn (characters ":02FFFF00000000\n") 131072 ≡ verdict 15 0
+  pub outside-array : judgement ":020000040001F9\n:0100000000FF\n:00000001FF\n" ≡ verdict 15 1
+  pub no-data : judgement ":020000040005F5\n:0000000000\n:00000001FF\n" ≡ verdict 0 0
+  -- 16: nothing at all; no end record, said of the text's end; an LF behind the end record, said of that LF
+  pub empty-text : judgement "" ≡ verdict 16 0
+  pub no-end : judgement ":0000000000\n" ≡ verdict 16 1
+  pub no-end-place : place 1 ":0000000000\n" ≡ 12
+  pub text-behind : judgement ":00000001FF\r\n\n" ≡ verdict 16 1
+  pub text-behind-place : place 1 ":00000001FF\r\n\n" ≡ 13
+  -- 18, before all others: no text at all for an array one byte short; no room for the text of an empty array
+  pub size-first : readingOf (characters "") 65535 ≡ reading 18 0
+  pub size-before-room : writtenOf nothing 0 ≡ written 18 0

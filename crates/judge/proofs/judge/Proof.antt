@@ -1,0 +1,69 @@
+-- `judge::judge` meets its contract: at each return the steps before it did not apply. Assumes nothing.
+use mathlib.Core.Bool.{false}
+use mathlib.Core.Path.{_≡_, sym, _∙_}
+use borrow.Author.Needs.{needs}
+use borrow.Author.Tests.{lt-ltb, le-ltb}
+use lib.Dec.{ltb}
+use Rattle.device.specs.Device.{deep, ultraDeep}
+use Rattle.judge.specs.Judging.{judged}
+use Rattle.judge.proofs.judge.Statement.{statement}
+use Rattle.judge.proofs.judge.Tie as tie
+
+-- past step 1
+not-ultra-deep : (c : tie.Else1) → ultraDeep (c .before .before .args .device .mode) ≡ false
+not-ultra-deep c = sym (c .before .is-ultra-deep .ensures) ∙ c .if1 .left
+
+-- past step 2
+enough-bits : (c : tie.Else2) → ltb (c .before .before .before .before .args .facts .bits) 8 ≡ false
+enough-bits c = le-ltb _ _ (c .if2 .left)
+
+-- past step 3
+not-deep : (c : tie.Else3) → deep (c .before .before .before .before .before .before .args .device .mode) ≡ false
+not-deep c = sym (c .before .is-deep .ensures) ∙ c .if3 .left
+
+returns : tie.Need-returns
+unfolding judged
+returns c = rw (sym (c .before .before .before .is-ultra-deep .ensures) ∙ c .before .before .if1 .taken, c .quiet .ensures, c .before .woken .ensures)
+
+returns-2 : tie.Need-returns-2
+unfolding judged
+returns-2 c = rw (not-ultra-deep (c .before .before .before), lt-ltb _ _ (c .before .if2 .taken), c .quiet2 .ensures)
+
+returns-3 : tie.Need-returns-3
+unfolding judged
+returns-3 c =
+    rw
+    (not-ultra-deep (c .before .before .before .before .before), enough-bits (c .before .before .before), sym (c .before .before .is-deep .ensures) ∙ c .before .if3 .taken, c .asleep .ensures)
+
+returns-4 : tie.Need-returns-4
+unfolding judged
+returns-4 c =
+    let past = c .before .before .before .before in
+    rw
+    (not-ultra-deep (past .before .before .before .before .before), enough-bits (past .before .before .before), not-deep (past .before), rw (past .row-of .ensures) at (c .before .if4 .taken), c .quiet3 .ensures)
+
+returns-5 : tie.Need-returns-5
+unfolding judged
+returns-5 c =
+    let past = c .before .before .before .before in
+    rw
+    (not-ultra-deep (past .before .before .before .before .before), enough-bits (past .before .before .before), not-deep (past .before), rw (past .row-of .ensures) at (c .before .if4 .left), c .by-opcode .ensures, past .row-of .ensures)
+
+pub judge-spec : {M : Type 1} → statement M
+judge-spec =
+    tie.close
+    (tie.spec
+    (λ c κs. search needs)
+    (λ c κs. search needs)
+    (λ c κs. search needs)
+    returns
+    (λ c κs. search needs)
+    returns-2
+    (λ c κs. search needs)
+    (λ c κs. search needs)
+    returns-3
+    (λ c κs. search needs)
+    (λ c κs. search needs)
+    returns-4
+    (λ c κs. search needs)
+    returns-5)

@@ -1,0 +1,20 @@
+-- `judge::reset` meets its contract. Assumes nothing.
+use borrow.Author.Needs.{needs}
+use Rattle.judge.proofs.reset.Statement.{statement}
+use Rattle.judge.proofs.reset.Tie as tie
+
+returns : tie.Need-returns
+returns c = rw (c .before .before .if1 .taken, c .quiet .ensures, c .before .reset .ensures)
+
+returns-2 : tie.Need-returns-2
+returns-2 c = rw (c .before .if1 .left, c .quiet2 .ensures)
+
+pub reset-spec : {M : Type 1} → statement M
+reset-spec =
+    tie.close
+    (tie.spec
+    (λ c κs. search needs)
+    (λ c κs. search needs)
+    returns
+    (λ c κs. search needs)
+    returns-2)

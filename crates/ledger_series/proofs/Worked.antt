@@ -1,0 +1,15 @@
+-- The worked series end as they are said to. Assumes nothing.
+use mathlib.Core.Path.{refl}
+use Rattle.runs.specs.Run as run
+use Rattle.opcodes.specs.Rows.{rowOf, rows, lookup}
+use Rattle.settings.specs.Settings.{anyUnfair}
+use Rattle.judge.specs.Judging.{judged, byOpcode}
+use Rattle.calls.specs.Refusal.{refusalOf}
+use Rattle.part.specs.Frame as part
+use Rattle.ledger_frame.specs.Frame.{replied}
+use Rattle.ledger.specs.Ledger.{aboveBefore, booked}
+use Rattle.ledger_series.specs.Worked.{Worked}
+
+pub worked : Worked
+unfolding run.end replied booked aboveBefore part.replied part.numberFor part.judgedOf refusalOf anyUnfair judged byOpcode rowOf rows lookup
+worked = record { first-million = refl; all-day = refl; nothing = refl; reset = refl; nobodys = refl; both = refl }

@@ -1,4 +1,0 @@
-pub mod Bits
-pub mod Device
-pub mod Judging
-pub mod Begins
