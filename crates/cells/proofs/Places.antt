@@ -82,12 +82,16 @@ over-alike covers also f g k x e h = by (covers k) refl
     by true c = over-in covers f k x c ∙ (h c ∙ sym (over-in also g k x (sym e ∙ c)))
     by false c = over-out covers f k x c ∙ sym (over-out also g k x (sym e ∙ c))
 
--- bytes outside are untouched, at any place
-pub untouched : (covers : ℕ → Bool) (f : Cell) (xs : List ℕ) (k d : ℕ) → covers k ≡ false → getD (each (over covers f) xs) k d ≡ getD xs k d
-untouched covers f xs k d e = by (decLt k (length xs))
+-- a byte that the function leaves alone stays, at any place
+pub stays : (f : Cell) (xs : List ℕ) (k d : ℕ) → ((x : ℕ) → f k x ≡ x) → getD (each f xs) k d ≡ getD xs k d
+stays f xs k d same = by (decLt k (length xs))
   where
-    by : Dec (k < length xs) → getD (each (over covers f) xs) k d ≡ getD xs k d
-    by (yes l) = getD-each (over covers f) xs k d l ∙ over-out covers f k (getD xs k d) e
+    by : Dec (k < length xs) → getD (each f xs) k d ≡ getD xs k d
+    by (yes l) = getD-each f xs k d l ∙ same (getD xs k d)
     by (no l) =
         let m : length xs ≤ k = omega arith in
-        List·getD-eq-default (each (over covers f) xs) d (omega (arith, length-each (over covers f) xs)) ∙ sym (List·getD-eq-default xs d m)
+        List·getD-eq-default (each f xs) d (omega (arith, length-each f xs)) ∙ sym (List·getD-eq-default xs d m)
+
+-- bytes outside are untouched
+pub untouched : (covers : ℕ → Bool) (f : Cell) (xs : List ℕ) (k d : ℕ) → covers k ≡ false → getD (each (over covers f) xs) k d ≡ getD xs k d
+untouched covers f xs k d e = stays (over covers f) xs k d (λ x. over-out covers f k x e)

@@ -24,7 +24,7 @@ use Rattle.part.proofs.Answers.{word-tells}
 
 module _ (c : Call) (m : Lent) where
   -- judging begins an operation on the array when the frame is ready
-  begins : changesArray (judgedOf c .action) ≡ ready (risen c) (factsOf c)
+  pub begins : changesArray (judgedOf c .action) ≡ ready (risen c) (factsOf c)
   unfolding judgedOf
   begins = exactly-when (risen c) (c .settings) (factsOf c)
 
