@@ -1,11 +1,11 @@
 // The tables of the ledger: what each account was billed, and what is booked of one call. It knows the answer of a call and its ticks, and
 // nothing of frames.
 use calls::Signals;
-use refusals::Refusal;
 use calls::bytes_for;
-use part::Answer;
 use judge::Outcome;
 use numbers::larger;
+use part::Answer;
+use refusals::Refusal;
 ghost use mathlib.Core.Bool.{false, not, _||_};
 ghost use mathlib.Core.Path.{_≡_};
 ghost use Prim.Native.Nat.{suc, _+_, _*_, _<_, _≤_, min, max};

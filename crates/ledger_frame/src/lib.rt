@@ -1,17 +1,17 @@
 // The ledger: busy ticks are billed to the account whose frame began the operation, whoever polls afterwards. It stands above the part and
 // sees what that promises: refusal, outcome and busy ticks.
+use calls::Lengths;
+use calls::Signals;
+use calls::refusal_of;
+use device::Device;
 use ledger::Running;
 use ledger::book;
 use ledger::is_shut;
-use calls::Signals;
-use calls::Lengths;
-use refusals::Refusal;
-use calls::refusal_of;
 use part::Answer;
 use part::frame;
 use part::refused;
+use refusals::Refusal;
 use settings::Settings;
-use device::Device;
 ghost use mathlib.Core.Path.{_≡_};
 ghost use Rattle.refusals.specs.Refusals.{numberOf};
 ghost use Rattle.calls.specs.Refusal.{refusalOf};

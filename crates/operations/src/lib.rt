@@ -1,10 +1,10 @@
 // The operations of a frame on the array and the register, and lists of them. It stands below the part and requires the right lengths.
+use calls::address_of;
 use cells::range::fill;
 use cells::wrapped;
-use calls::address_of;
+use judge::Action;
 use opcodes::Region;
 use pages::program_page;
-use judge::Action;
 ghost use mathlib.Core.Path.{_≡_};
 ghost use Prim.Native.Nat.{_<_, _%_};
 ghost use lib.ListN.{length};

@@ -1,15 +1,15 @@
 // What the output positions of a frame read. It stands below the part and requires the right lengths.
+use calls::Signals;
+use calls::address_of;
 use cells::copy::copy_out;
 use cells::range::fill;
 use cells::wrapped;
-use calls::Signals;
-use calls::address_of;
-use opcodes::Source;
 use device::Device;
-use judge::Action;
-use judge::Judged;
 use device::status::status_one;
 use device::status::status_two;
+use judge::Action;
+use judge::Judged;
+use opcodes::Source;
 ghost use mathlib.Core.Path.{_≡_};
 ghost use Prim.Native.Nat.{_+_, _/_, _≤_, _<_};
 ghost use lib.ListN.{length};

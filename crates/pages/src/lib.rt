@@ -1,7 +1,7 @@
 // Programming: of the data the last bytes count, as many as the page has, and each is ANDed at the one place that it aims at. It knows
 // pages of any size, and nothing of flash.
-use numbers::lesser;
 use cells::wrapped;
+use numbers::lesser;
 ghost use mathlib.Core.Path.{_≡_};
 ghost use Prim.Native.Nat.{_+_, _≤_, _<_};
 ghost use lib.ListN.{length, drop};

@@ -1,10 +1,10 @@
 // The built-in session: four frames on a small part whose programs take 2,000 ticks each. A line gives a frame's bytes, what the output
 // reads, and status byte 1 after the call.
 use calls::Signals;
-use part::frame;
-use settings::Settings;
 use device::Device;
 use device::status::status_one;
+use part::frame;
+use settings::Settings;
 ghost use mathlib.Core.Path.{_≡_};
 ghost use Prim.Native.Nat.{_≤_, _<_};
 ghost use lib.ListN.{length};

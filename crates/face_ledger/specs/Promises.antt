@@ -1,0 +1,24 @@
+-- What a frame through the ledger by words, and the report, promise. Assumes nothing.
+use Prim.Native.Nat.{ℕ}
+use mathlib.Core.Bool.{true, false}
+use mathlib.Core.List.{List}
+use mathlib.Core.Logic.{_≢_}
+use mathlib.Core.Path.{_≡_}
+use Rattle.part.specs.Frame.{Lent}
+use Rattle.face_frame.specs.Words.{Handed}
+use Rattle.ledger.specs.declared.Reported.{Reported}
+use Rattle.ledger.specs.declared.Running.{Running}
+use Rattle.face_ledger.specs.Words.{Ticket, isRunning, runningOf, runningWords, isCallFor, unread, faced, reportNumber, reportWords}
+
+pub record Promises : Type 0 where
+  -- a frame through the ledger is answered with 255 exactly if its words stand for nothing, and then everything is as it was
+  pub bill-unread : (h : Handed) (k : Ticket) (m : Lent)
+      → (isCallFor h k ≡ false → faced h k m ≡ unread h k m) × (faced h k m .frame .number ≡ 255 → isCallFor h k ≡ false)
+  -- with a number other than 0 it changes neither the record's words nor a lent byte nor a word of the ledger
+  pub bill-kept : (h : Handed) (k : Ticket) (m : Lent) → faced h k m .frame .number ≢ 0
+      → (faced h k m .frame .device ≡ h .device) × (faced h k m .frame .lent ≡ m) × (faced h k m .running ≡ k .running) × (faced h k m .totals ≡ k .totals)
+      × (faced h k m .most ≡ k .most) × (faced h k m .numbers ≡ k .numbers)
+  -- a report that is refused writes nothing
+  pub report-kept : (r : Reported) (line : List ℕ) → reportNumber r line ≢ 0 → reportWords r line ≡ line
+  -- the running operation that comes back as words is the one that goes in with them
+  pub same-running : (r : Running) → (isRunning (runningWords r) ≡ true) × (runningOf (runningWords r) ≡ r)

@@ -1,2 +1,0 @@
-pub mod Face
-pub mod Promises
