@@ -142,9 +142,8 @@ impl Device {
     pub fn woken(mut self) -> Device
         ensures { λ r. ⌜ r ≡ woken self ⌝ }
     {
-        self.wel = false;
         self.rste = false;
-        self.moved(Mode::Awake)
+        self.dropped().moved(Mode::Awake)
     }
 
     // Busy for so many ticks.
