@@ -3,30 +3,15 @@ use Prim.Native.Nat.{ℕ, zero, suc, _+_, _*_, _/_, _%_, _<_, _≤_}
 use mathlib.Core.Bool.{Bool, true, false, cond, _||_}
 use mathlib.Core.List.{List, [], _∷_, _++_}
 use mathlib.Core.Path.{_≡_, refl, sym, _∙_}
-use native.Mathlib.Decide.{decLt}
-use native.Mathlib.Nat.{not-suc-le-zero, le-of-suc-le-suc}
 use native.Mathlib.Omega.{arith}
-use borrow.Author.Tests.{lt-ltb, le-ltb, eq-eqb, ne-eqb}
+use borrow.Author.Tests.{lt-ltb, eq-eqb, ne-eqb}
 use lib.Dec.{ltb, eqb}
 use lib.ListN.{length, getD, take, length-append, List·getD-append}
 use lib.Seq.{take-suc, take-length}
-use Rattle.cells.proofs.Runs.{range-in, range-behind}
-use Rattle.ihex_layout.specs.Layout.{colon, LF, CR, digit, digits, sum, checksum, fields, recordLine, digitOf, byteAt, lengthOf, addressOf, kindOf, dataAt, asked, sumOf}
-use Rattle.ihex_write.proofs.Digits.{length-digits, sum-append}
+use Rattle.ihex_layout.specs.Layout.{colon, LF, CR, digit, digits, sum, checksum, fields, recordLine, byteAt, lengthOf, addressOf, kindOf, dataAt, asked, sumOf}
+use Rattle.ihex_layout.proofs.Digits.{length-digits, sum-more, checked, byte-read}
 use Rattle.ihex_read.specs.Reader.{pairs, isWhole}
 use Rattle.ihex_promises.specs.Promises.{Bytes, plain}
-
--- a digit that is written is read as what it was
-digit-read : (n : ℕ) → n < 16 → digitOf (digit n) ≡ n
-unfolding digitOf
-digit-read n l = by (decLt n 10)
-  where
-    by : Dec (n < 10) → digitOf (digit n) ≡ n
-    by (yes d) = rw (lt-ltb n 10 d, range-in 0x30 0x3A (0x30 + n) (omega arith) (omega arith)) (omega arith)
-    by (no d) =
-        rw
-        (le-ltb n 10 (omega arith), range-behind 0x30 0x3A (0x37 + n) (omega arith), range-in 0x41 0x47 (0x37 + n) (omega arith) (omega arith))
-        (omega arith)
 
 -- a digit ends no line
 digit-plain : (n : ℕ) → (eqb (digit n) LF || eqb (digit n) CR) ≡ false
@@ -41,21 +26,6 @@ digits-plain : (bytes : List ℕ) → plain (digits bytes) ≡ true
 unfolding digits plain
 digits-plain [] = refl
 digits-plain (b ∷ bytes) = rw (digit-plain (b / 16), digit-plain (b % 16)) (digits-plain bytes)
-
--- one byte more adds to the sum
-sum-more : (bytes : List ℕ) (b : ℕ) → sum (bytes ++ b ∷ []) ≡ sum bytes + b
-unfolding sum
-sum-more bytes b = omega (arith, sum-append bytes (b ∷ []))
-
--- the digits of bytes, behind one character, are read as these bytes
-byte-read : (c : ℕ) (bytes : List ℕ) (k : ℕ) → k < length bytes → getD bytes k 0 < 256 → byteAt (c ∷ digits bytes) k ≡ getD bytes k 0
-unfolding byteAt digits
-byte-read c [] k l s = absurd (not-suc-le-zero l)
-byte-read c (b ∷ bytes) zero l s = rw (digit-read (b / 16) (omega arith), digit-read (b % 16) (omega arith)) (omega arith)
-byte-read c (b ∷ bytes) (suc k) l s =
-    let p : 2 * suc k + 1 ≡ suc (suc (2 * k + 1)) = omega arith in
-    let q : 2 * suc k + 2 ≡ suc (suc (2 * k + 2)) = omega arith in
-    rw (p, q) (byte-read (digit (b % 16)) bytes k (le-of-suc-le-suc l) s)
 
 -- A line of the digits of bytes.
 module _ (bytes : List ℕ) (small : Bytes bytes) where
@@ -155,9 +125,7 @@ module _ (address kind : ℕ) (content : List ℕ) (a : address < 65536) (t : ki
       let told : length content + 5 ≡ length (bytesOf address kind content) = sym (length-bytes address kind content) in
       record {
         whole = all-there (bytesOf address kind content) all-small told;
-        adds-up =
-            omega
-            (arith, all-summed (bytesOf address kind content) all-small told, sum-more (fields address kind content) (checksum (fields address kind content)));
+        adds-up = rw (all-summed (bytesOf address kind content) all-small told) (checked (fields address kind content));
         long = record-read 0 (omega arith);
         there = omega (arith, record-read 1 (omega arith), record-read 2 (omega arith));
         such = record-read 3 (omega arith);

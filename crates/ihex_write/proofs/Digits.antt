@@ -1,4 +1,4 @@
--- The laws of the pairs of digits for bytes, and of the sum of bytes. Assumes nothing.
+-- A loop that writes the pairs of digits for bytes and adds them up. Assumes nothing.
 use Prim.Native.Nat.{ℕ, zero, suc, _+_, _*_, _<_, _≤_}
 use mathlib.Core.List.{List, [], _∷_, _++_}
 use mathlib.Core.Path.{_≡_, refl, _∙_}
@@ -7,25 +7,8 @@ use native.Mathlib.Omega.{arith}
 use lib.ListN.{length, getD, take, drop}
 use lib.Seq.{sets, take-suc, length-take-le, getD-drop}
 use Rattle.ihex_layout.specs.Layout.{digits, sum}
+use Rattle.ihex_layout.proofs.Digits.{digits-append, length-digits, sum-append}
 use Rattle.ihex_write.proofs.Stores.{Received, one-more}
-
--- the digits of bytes and more bytes
-pub digits-append : (xs ys : List ℕ) → digits (xs ++ ys) ≡ digits xs ++ digits ys
-unfolding digits
-digits-append [] ys = refl
-digits-append (x ∷ xs) ys = rw (digits-append xs ys)
-
--- two for each byte
-pub length-digits : (xs : List ℕ) → length (digits xs) ≡ 2 * length xs
-unfolding digits
-length-digits [] = refl
-length-digits (x ∷ xs) = omega (arith, length-digits xs)
-
--- the sum of bytes and more bytes
-pub sum-append : (xs ys : List ℕ) → sum (xs ++ ys) ≡ sum xs + sum ys
-unfolding sum
-sum-append [] ys = omega arith
-sum-append (x ∷ xs) ys = omega (arith, sum-append xs ys)
 
 -- the sum of n bytes of a source is small
 pub sum-small : (n from : ℕ) (source : List ℕ) → ((k : ℕ) → getD source k 0 < 256) → sum (take n (drop from source)) ≤ 255 * n

@@ -7,7 +7,7 @@ use lib.ListN.{length, set, length-append}
 use lib.Seq.{sets}
 use Rattle.ihex_layout.specs.Layout.{colon, LF, digits, sum, checksum, fields, recordLine}
 use Rattle.ihex_write.proofs.Stores.{Received, one-more}
-use Rattle.ihex_write.proofs.Digits.{digits-append, length-digits}
+use Rattle.ihex_layout.proofs.Digits.{digits-append, length-digits}
 
 -- two digits for each byte, five bytes around the data, and two characters around all of them
 pub length-line : (address kind : ℕ) (content : List ℕ) → length (recordLine address kind content ++ LF ∷ []) ≡ 12 + 2 * length content
