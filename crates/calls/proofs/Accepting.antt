@@ -1,12 +1,12 @@
 -- What is known of a call that is not refused. Assumes nothing.
-use Prim.Native.Nat.{ℕ, suc, _≤_}
+use Prim.Native.Nat.{_≤_}
 use mathlib.Core.Bool.{Bool, true, false, cond}
 use mathlib.Core.Logic.{_≢_}
 use mathlib.Core.Path.{_≡_, refl}
 use native.Mathlib.Omega.{arith}
 use borrow.Author.Tests.{ltb-false, eqb-true, not-false}
 use Rattle.refusals.specs.declared.Refusal.{Refusal}
-use Rattle.refusals.specs.declared.Refusal.the-variants.{Accepted, ArrayLength, RegisterLength, InputLength, BitCount, OutputLength, Record, Duration, Pace}
+use Rattle.refusals.specs.declared.Refusal.the-variants.{ArrayLength, RegisterLength, InputLength, BitCount, OutputLength, Record, Duration, Pace}
 use Rattle.refusals.specs.Refusals.{numberOf}
 use Rattle.settings.specs.declared.Settings.{Settings}
 use Rattle.settings.specs.Settings.{anyUnfair}

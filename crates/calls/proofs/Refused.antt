@@ -1,7 +1,7 @@
--- Which refusals a call can get: none of the ledger's. Assumes nothing.
+-- A call is never refused with the ledger's refusal. Assumes nothing.
 use mathlib.Core.Bool.{Bool, true, false, cond, not}
 use mathlib.Core.Logic.{_≢_}
-use mathlib.Core.Path.{_≡_, ap}
+use mathlib.Core.Path.{ap}
 use native.Mathlib.Omega.{arith}
 use lib.Dec.{ltb, eqb}
 use Rattle.refusals.specs.declared.Refusal.{Refusal}

@@ -1,5 +1,5 @@
 // What a call is handed, and why it is refused: the bytes of a frame, the signals beside them, and how long the lent memories are. What a
-// caller can break is refused and not required. It never sees a byte that is lent.
+// caller can break is refused and not required. It sees no byte of the lent memories.
 use device::Device;
 use memories::is_array;
 use memories::is_register;
@@ -61,7 +61,7 @@ pub fn bytes_for(bits: u64) -> u64
     bits / 8 + (bits % 8 + 7) / 8
 }
 
-// Why a call is refused, by the lowest number that applies.
+// Why a call is refused, by the first in the papers' order that applies.
 pub fn refusal_of(device: Device, settings: Settings, signals: Signals, lengths: Lengths) -> Refusal
     ensures { λ r. ⌜ r ≡ refusalOf device settings signals lengths ⌝ }
 {

@@ -15,6 +15,7 @@ pub enum Mode {
 }
 
 impl Mode {
+    // Not asleep.
     pub(crate) fn is_awake(self) -> bool
         ensures { λ r. ⌜ r ≡ awake self ⌝ }
     {
@@ -25,6 +26,7 @@ impl Mode {
         }
     }
 
+    // In deep power-down.
     pub fn is_deep(self) -> bool
         ensures { λ r. ⌜ r ≡ deep self ⌝ }
     {
@@ -35,6 +37,7 @@ impl Mode {
         }
     }
 
+    // In ultra-deep power-down.
     pub fn is_ultra_deep(self) -> bool
         ensures { λ r. ⌜ r ≡ ultraDeep self ⌝ }
     {
@@ -123,7 +126,7 @@ impl Device {
         self
     }
 
-    // The mode changes.
+    // The mode changes. A field that is an enum cannot be assigned, so the record is written anew, here and nowhere else.
     pub fn moved(self, mode: Mode) -> Device
         ensures { λ r. ⌜ r ≡ moved self mode ⌝ }
     {

@@ -5,11 +5,11 @@ use device::status::status_one;
 use device::status::status_two;
 use face_words::RECORD;
 use face_words::SETTINGS;
+use face_words::as_word;
 use face_words::device_of;
 use face_words::is_record;
 use face_words::memory_of;
 use face_words::pack;
-use face_words::wide;
 use face_words::write;
 use memories::look;
 use memories::look_start;
@@ -62,7 +62,10 @@ pub extern "C" fn oxterin_status(device: &[u64], wp: u64, status: &mut [u64]) ->
         ⌝ }
 {
     let known = device_of(device);
-    let words = [wide(status_one(known, wp == 1)), wide(status_two(known))];
+    let words = [
+        as_word(status_one(known, wp == 1)),
+        as_word(status_two(known)),
+    ];
     write(is_record(device) & (wp < 2), status, 2, &words)
 }
 

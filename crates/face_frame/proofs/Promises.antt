@@ -5,11 +5,11 @@ use mathlib.Core.Path.{_≡_, refl, sym, ap, _∙_}
 use Rattle.device.specs.declared.Device.{Device}
 use Rattle.part.specs.Frame.{Call, Lent, lengthsOf, frame}
 use Rattle.part.proofs.Answers.{refused-leaves, call-never-255}
-use Rattle.face_words.specs.Words.{packed, asLent}
-use Rattle.face_words.proofs.Records.{written-back}
+use Rattle.face_words.specs.Words.{isRecord, deviceOf, packed, asLent}
+use Rattle.face_words.proofs.Records.{record-whole, written-back, is-record, same-record}
 use Rattle.face_frame.specs.Words.{Handed, isCall, callOf, told, unread, faced}
 use Rattle.face_frame.specs.Promises.{Promises}
-use Rattle.face_frame.proofs.Words.{record-read}
+use Rattle.face_frame.proofs.Words.{record-read, enough}
 
 -- the two ways of a call
 read : (h : Handed) (m : Lent) → isCall h ≡ true → faced h m ≡ told h (frame (callOf h) m)
@@ -42,5 +42,18 @@ unchanged h m n = by (isCall h) refl
         )
     by false r = (ap (λ l. l .device) (passed-over h m r), ap (λ l. l .lent) (passed-over h m r))
 
+-- the words of a record, as many as are lent for it, stand for it
+back : (h : Handed) (m : Lent) → isCall h ≡ true → (isRecord (faced h m .device) ≡ true) × (deviceOf (faced h m .device) ≡ frame (callOf h) m .reply .device)
+back h m r =
+    let d = frame (callOf h) m .reply .device in
+    let whole : asLent (h .device) (packed d) ≡ packed d = record-whole (h .device) d (enough h r .0) in
+    rw (read h m r, whole) (is-record d, same-record d)
+
 pub promises : Promises
-promises = record { as-the-part = read; unread-exactly = λ h m. (passed-over h m, exactly h m); refused-changes-nothing = unchanged }
+promises =
+    record {
+      as-the-part = read;
+      unread-exactly = λ h m. (passed-over h m, exactly h m);
+      comes-back = back;
+      refused-changes-nothing = unchanged;
+    }

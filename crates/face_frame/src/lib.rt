@@ -2,6 +2,7 @@
 use face_words::ANSWER;
 use face_words::RECORD;
 use face_words::UNREAD;
+use face_words::as_word;
 use face_words::device_of;
 use face_words::is_answer;
 use face_words::is_record;
@@ -11,7 +12,6 @@ use face_words::outcome_number;
 use face_words::pack;
 use face_words::settings_of;
 use face_words::signals_of;
-use face_words::wide;
 use face_words::write;
 use part::Answer;
 use part::frame;
@@ -44,7 +44,7 @@ pub fn reply(answered: Answer, device: &mut [u64], answer: &mut [u64]) -> u64
     ];
     write(true, answer, ANSWER, &numbers);
     let refusal = answered.refusal;
-    wide(refusal.number())
+    as_word(refusal.number())
 }
 
 // A frame whose words all stand for something.

@@ -1,7 +1,7 @@
 // Intel HEX for callers that have only numbers and memories: one word is lent for the answer. Any other number of words is answered with
 // 255, and then nothing changes.
 use face_words::UNREAD;
-use face_words::wide;
+use face_words::as_word;
 ghost use mathlib.Core.Path.{_≡_};
 ghost use Rattle.face_hex.specs.Words.{spoken, textOut, textIn};
 
@@ -17,7 +17,7 @@ pub extern "C" fn oxterin_hex_write(array: &[u8], text: &mut [u8], characters: &
         let written = ihex_write::write(array, text);
         characters[0] = written.characters as u64;
         let refusal = written.refusal;
-        return wide(refusal.number());
+        return as_word(refusal.number());
     }
     UNREAD
 }
@@ -34,7 +34,7 @@ pub extern "C" fn oxterin_hex_read(text: &[u8], array: &mut [u8], place: &mut [u
         let reading = ihex_read::read(text, array);
         place[0] = reading.place as u64;
         let refusal = reading.refusal;
-        return wide(refusal.number());
+        return as_word(refusal.number());
     }
     UNREAD
 }

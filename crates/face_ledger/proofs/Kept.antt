@@ -17,10 +17,10 @@ use Rattle.ledger.specs.Ledger.{Ledger}
 use Rattle.ledger_frame.specs.Frame.{frame}
 use Rattle.ledger_frame.proofs.Frames.{refused-leaves, never-255}
 use Rattle.device.specs.declared.Device.{Device}
-use Rattle.face_words.specs.Words.{asLent, packed, writtenIf}
-use Rattle.face_words.proofs.Records.{lent-whole, written-whole, written-back}
+use Rattle.face_words.specs.Words.{isRecord, deviceOf, asLent, packed, writtenIf}
+use Rattle.face_words.proofs.Records.{lent-whole, written-whole, record-whole, written-back, is-record, same-record}
 use Rattle.face_frame.specs.Words.{Handed, callOf}
-use Rattle.face_frame.proofs.Words.{record-read}
+use Rattle.face_frame.proofs.Words.{record-read, enough}
 use Rattle.face_ledger.specs.Words.{Ticket, LeftFor, isRunning, runningOf, runningWords, ledgerOf, isCallFor, told, unread, faced, isReport, reportNumber, reportWords}
 use Rattle.face_ledger.proofs.Words.{stands}
 
@@ -74,6 +74,20 @@ bill-kept h k m n = by (isCallFor h k) refl
           ap (λ (l : Ledger). l .numbers) (kept .2),
         )
     by false r = rw (passed-over h k m r) (refl, refl, refl, refl, refl, refl)
+
+-- the words that come back, as many as are lent, stand for what comes back
+pub bill-back : (h : Handed) (k : Ticket) (m : Lent) → isCallFor h k ≡ true
+    → (isRecord (faced h k m .frame .device) ≡ true) × (deviceOf (faced h k m .frame .device) ≡ frame (callOf h) m (k .account) (ledgerOf k) .reply .device)
+    × (isRunning (faced h k m .running) ≡ true) × (runningOf (faced h k m .running) ≡ frame (callOf h) m (k .account) (ledgerOf k) .ledger .running)
+bill-back h k m r =
+    let right = stands h k r in
+    let result = frame (callOf h) m (k .account) (ledgerOf k) in
+    let d = result .reply .device in
+    let on = result .ledger .running in
+    let record-all : asLent (h .device) (packed d) ≡ packed d = record-whole (h .device) d (enough h (right .0) .0) in
+    let running-all : asLent (k .running) (runningWords on) ≡ runningWords on
+    = written-whole (k .running) (runningWords on) (sym (lent-whole 2 (length (k .running)) (right .1))) in
+    rw (read h k m r, record-all, running-all) (is-record d, same-record d, refl, refl)
 
 pub report-kept : (r : Reported) (line : List ℕ) → reportNumber r line ≢ 0 → reportWords r line ≡ line
 report-kept r line n = by (ℕ-discrete (numberOf (r .refusal)) 0) (isReport (length line)) n

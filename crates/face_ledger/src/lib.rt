@@ -2,6 +2,7 @@
 // with 255, and then nothing changes.
 use face_frame::reply;
 use face_words::UNREAD;
+use face_words::as_word;
 use face_words::device_of;
 use face_words::is_answer;
 use face_words::is_lent;
@@ -10,7 +11,6 @@ use face_words::is_settings;
 use face_words::is_signals;
 use face_words::settings_of;
 use face_words::signals_of;
-use face_words::wide;
 use face_words::word;
 use face_words::write;
 use ledger::Running;
@@ -24,6 +24,13 @@ ghost use Rattle.ledger.specs.Ledger.{reported};
 ghost use Rattle.ledger_frame.specs.Frame as through;
 ghost use Rattle.face_ledger.specs.Words as words;
 
+// How many words the running operation has.
+const RUNNING: usize = 2;
+
+// How many words the report has.
+const REPORT: usize = 3;
+
+// The running operation that its words stand for.
 fn running_of(running: &[u64]) -> Running
     ensures { λ r. ⌜ r ≡ words.runningOf (now (running .entry)) ⌝ }
 {
@@ -32,11 +39,6 @@ fn running_of(running: &[u64]) -> Running
         billed: word(running, 1),
     }
 }
-
-// How many words the running operation has, and the report.
-const RUNNING: usize = 2;
-
-const REPORT: usize = 3;
 
 // The running operation's words, as far as these are lent.
 fn put_running(after: Running, running: &mut [u64])
@@ -136,7 +138,7 @@ pub extern "C" fn oxterin_ledger_frame(
         & is_settings(settings)
         & is_signals(signals)
         & is_answer(answer.len())
-        & is_lent(running.len(), RUNNING, RUNNING)
+        & is_lent(RUNNING, RUNNING, running.len())
     {
         return told_for(
             device,
@@ -174,10 +176,10 @@ pub extern "C" fn oxterin_report<'a>(
         words.reportWords (reported account (now (totals .entry)) (now (most .entry)) (now (numbers .entry))) (now (line .entry))
         ⌝ }
 {
-    if is_lent(line.len(), REPORT, REPORT) {
+    if is_lent(REPORT, REPORT, line.len()) {
         let reported = ledger::report(totals, most, numbers, account);
         let refusal = reported.refusal;
-        let number = wide(refusal.number());
+        let number = as_word(refusal.number());
         let told = [reported.total, reported.most, reported.number];
         write(number == 0, line, REPORT, &told);
         return number;

@@ -2,7 +2,7 @@
 use Prim.Native.Nat.{ℕ, zero, suc, _≤_}
 use mathlib.Core.Bool.{Bool, true, false, _&&_, and-eq-true-iff}
 use mathlib.Core.List.{List, [], _∷_}
-use mathlib.Core.Path.{_≡_, refl, ap, _∙_}
+use mathlib.Core.Path.{_≡_, refl, sym, ap, _∙_}
 use native.Mathlib.Decide.{ℕ-discrete}
 use native.Mathlib.Omega.{arith}
 use borrow.Author.Tests.{leb-true, ltb-true}
@@ -11,7 +11,7 @@ use lib.ListN.{length, getD}
 use lib.Seq.{take-all}
 use Rattle.device.specs.declared.Device.{Device}
 use Rattle.device.specs.declared.Mode.{Mode}
-use Rattle.face_words.specs.Words.{isLent, recordLent, asLent, wordOf, isFlag, flagOf, modeNumber, isMode, modeOf, packed, isRecord, deviceOf, isSettings, settingsOf}
+use Rattle.face_words.specs.Words.{recordWords, settingsWords, isLent, recordLent, asLent, wordOf, isFlag, flagOf, modeNumber, isMode, modeOf, packed, isRecord, deviceOf, isSettings, settingsOf}
 
 -- the words of a list from a place on, so many of them
 spelled : ℕ → ℕ → List ℕ → List ℕ
@@ -90,16 +90,20 @@ same-words ws e =
     let r = record-right ws e in
     rw
     (flag-back (getD ws 0 0) (r .bpl), flag-back (getD ws 1 0) (r .bp0), flag-back (getD ws 2 0) (r .wel), flag-back (getD ws 3 0) (r .rste), flag-back (getD ws 4 0) (r .used), mode-back (getD ws 5 0) (r .mode))
-    (spelled-out 7 ws (lent-whole 7 (length ws) (r .long)))
+    (spelled-out recordWords ws (lent-whole recordWords (length ws) (r .long)))
 
--- so that record, written back, leaves the words as they are
+-- a record is written whole
+pub record-whole : (lent : List ℕ) (d : Device) → recordLent (length lent) ≡ true → asLent lent (packed d) ≡ packed d
+record-whole lent d e = written-whole lent (packed d) (sym (lent-whole recordWords (length lent) e))
+
+-- so a record that is written back leaves its words as they are
 pub written-back : (ws : List ℕ) → isRecord ws ≡ true → asLent ws (packed (deviceOf ws)) ≡ ws
 written-back ws e = let same = same-words ws e in written-whole ws (packed (deviceOf ws)) (ap length same) ∙ same
 
 -- and the eight durations are the eight words
 pub same-durations : (ws : List ℕ) → isSettings ws ≡ true → settingsOf ws .ticks ≡ ws
 unfolding settingsOf spelled
-same-durations ws e = spelled-out 8 ws (lent-whole 8 (length ws) e)
+same-durations ws e = spelled-out settingsWords ws (lent-whole settingsWords (length ws) e)
 
 flag-is : (b : Bool) → isFlag (wordOf b) ≡ true
 flag-is true = refl

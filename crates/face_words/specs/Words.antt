@@ -18,17 +18,33 @@ use Rattle.part.specs.Frame.{Reply}
 abbrev pub isLent : ℕ → ℕ → ℕ → Bool
 isLent oldest all long = leb oldest long && leb long all
 
+-- how many words the record has, the settings, the signals and the answer; and how many signals the oldest caller knows of
+abbrev pub recordWords : ℕ
+recordWords = 7
+
+abbrev pub settingsWords : ℕ
+settingsWords = 8
+
+abbrev pub signalsWords : ℕ
+signalsWords = 4
+
+abbrev pub firstSignals : ℕ
+firstSignals = 3
+
+abbrev pub answerWords : ℕ
+answerWords = 3
+
 abbrev pub recordLent : ℕ → Bool
-recordLent long = isLent 7 7 long
+recordLent long = isLent recordWords recordWords long
 
 abbrev pub settingsLent : ℕ → Bool
-settingsLent long = isLent 8 8 long
+settingsLent long = isLent settingsWords settingsWords long
 
 abbrev pub signalsLent : ℕ → Bool
-signalsLent long = isLent 3 4 long
+signalsLent long = isLent firstSignals signalsWords long
 
 abbrev pub answerLent : ℕ → Bool
-answerLent long = isLent 3 3 long
+answerLent long = isLent answerWords answerWords long
 
 -- as many of the new words as are lent
 abbrev pub asLent : List ℕ → List ℕ → List ℕ
@@ -60,7 +76,7 @@ modeOf word = cond (eqb word 0) Mode.Awake (cond (eqb word 1) Mode.Deep Mode.Ult
 abbrev pub memoryOf : ℕ → Memory
 memoryOf word = cond (eqb word 0) Memory.Array Memory.Register
 
--- the record, seven words: BPL, BP0, WEL, RSTE, the OTP-used mark, the mode, the busy ticks left
+-- the record: BPL, BP0, WEL, RSTE, the OTP-used mark, the mode, the busy ticks left
 abbrev pub packed : Device → List ℕ
 packed d =
     wordOf (d .bpl) ∷ wordOf (d .bp0) ∷ wordOf (d .wel) ∷ wordOf (d .rste) ∷ wordOf (d .used) ∷ modeNumber (d .mode) ∷ d .busy ∷ []
@@ -82,7 +98,7 @@ deviceOf ws =
       busy = getD ws 6 0;
     }
 
--- the settings, eight words: the durations in document 01's order
+-- the settings: the durations in document 01's order
 abbrev pub isSettings : List ℕ → Bool
 isSettings ws = settingsLent (length ws)
 
@@ -93,7 +109,7 @@ settingsOf ws =
           getD ws 0 0 ∷ getD ws 1 0 ∷ getD ws 2 0 ∷ getD ws 3 0 ∷ getD ws 4 0 ∷ getD ws 5 0 ∷ getD ws 6 0 ∷ getD ws 7 0 ∷ [];
     }
 
--- the signals, four words: the bits clocked, WP's level, the ticks elapsed, and the ticks per byte position, of which the oldest caller
+-- the signals: the bits clocked, WP's level, the ticks elapsed, and the ticks per byte position, of which the oldest caller
 -- knows nothing
 abbrev pub isSignals : List ℕ → Bool
 isSignals ws = signalsLent (length ws) && isFlag (getD ws 1 0)
@@ -110,7 +126,7 @@ unfoldable pub outcomeNumber : String → ℕ
 unfolding placeOf
 outcomeNumber word = placeOf word ("nothing" ∷ "read" ∷ "control" ∷ "aborted" ∷ "begun" ∷ [])
 
--- the answer, three words: the outcome, the first driven position, how many are driven
+-- the answer: the outcome, the first driven position, how many are driven
 abbrev pub answerOf : Reply → List ℕ
 answerOf reply = outcomeNumber (reply .outcome) ∷ reply .first ∷ reply .driven ∷ []
 

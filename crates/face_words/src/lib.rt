@@ -1,5 +1,5 @@
-// The words in which record, settings, signals and answer travel to callers that have only numbers and slices. How many words each has is
-// said here and nowhere else.
+// The words in which record, settings, signals and answer travel to callers that have only numbers and slices. Above, every count of words
+// is one of the constants here.
 use calls::Signals;
 use device::Device;
 use device::Mode;
@@ -14,7 +14,7 @@ ghost use Rattle.part.specs.Words as part;
 ghost use Rattle.face_words.specs.Words.{isLent, answerLent, asLent, wordOf, modeNumber, modeOf, memoryOf, packed, isRecord, deviceOf, isSettings, settingsOf, isSignals, signalsOf, outcomeNumber, numberIf, writtenIf};
 
 // A byte as a word.
-pub fn wide(byte: u8) -> u64
+pub fn as_word(byte: u8) -> u64
     ensures { λ r. ⌜ r ≡ byte ⌝ }
 {
     byte as u64
@@ -31,7 +31,7 @@ pub fn word(words: &[u64], place: usize) -> u64
 }
 
 // Whether a list may be lent with so many words: those of the oldest caller, or more, up to all.
-pub fn is_lent(long: usize, oldest: usize, all: usize) -> bool
+pub fn is_lent(oldest: usize, all: usize, long: usize) -> bool
     ensures { λ r. ⌜ r ≡ isLent oldest all long ⌝ }
 {
     (oldest <= long) & (long <= all)
@@ -72,7 +72,7 @@ pub fn write(right: bool, words: &mut [u64], oldest: usize, new: &[u64]) -> u64
         writtenIf (right && isLent oldest (length (now (new .entry))) (length (now (words .entry)))) (now (new .entry)) (now (words .entry))
         ⌝ }
 {
-    if right & is_lent(words.len(), oldest, new.len()) {
+    if right & is_lent(oldest, new.len(), words.len()) {
         put(words, new);
         return 0;
     }
@@ -137,7 +137,7 @@ pub fn pack(device: Device) -> [u64; 7]
 pub fn is_record(words: &[u64]) -> bool
     ensures { λ r. ⌜ r ≡ isRecord (now (words .entry)) ⌝ }
 {
-    is_lent(words.len(), RECORD, RECORD)
+    is_lent(RECORD, RECORD, words.len())
         & (word(words, 0) < 2)
         & (word(words, 1) < 2)
         & (word(words, 2) < 2)
@@ -164,7 +164,7 @@ pub fn device_of(words: &[u64]) -> Device
 pub fn is_settings(words: &[u64]) -> bool
     ensures { λ r. ⌜ r ≡ isSettings (now (words .entry)) ⌝ }
 {
-    is_lent(words.len(), SETTINGS, SETTINGS)
+    is_lent(SETTINGS, SETTINGS, words.len())
 }
 
 pub fn settings_of(words: &[u64]) -> Settings
@@ -188,7 +188,7 @@ pub fn settings_of(words: &[u64]) -> Settings
 pub fn is_signals(words: &[u64]) -> bool
     ensures { λ r. ⌜ r ≡ isSignals (now (words .entry)) ⌝ }
 {
-    is_lent(words.len(), FIRST_SIGNALS, SIGNALS) & (word(words, 1) < 2)
+    is_lent(FIRST_SIGNALS, SIGNALS, words.len()) & (word(words, 1) < 2)
 }
 
 pub fn signals_of(words: &[u64]) -> Signals
@@ -206,7 +206,7 @@ pub fn signals_of(words: &[u64]) -> Signals
 pub fn is_answer(long: usize) -> bool
     ensures { λ r. ⌜ r ≡ answerLent long ⌝ }
 {
-    is_lent(long, ANSWER, ANSWER)
+    is_lent(ANSWER, ANSWER, long)
 }
 
 // The outcome's place among the outcomes.

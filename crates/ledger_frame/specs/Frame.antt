@@ -3,6 +3,8 @@ use Prim.Native.Nat.{ℕ}
 use mathlib.Core.Bool.{Bool, cond, _&&_}
 use mathlib.Core.Path.{_≡_}
 use lib.Dec.{eqb}
+use Rattle.refusals.specs.declared.Refusal.{Refusal}
+use Rattle.refusals.specs.Refusals.{numberOf}
 use Rattle.calls.specs.declared.Lengths.{Lengths}
 use Rattle.part.specs.Frame as part
 use Rattle.part.specs.Frame.{Call, Lent, Reply, lengthsOf, numberFor, refused}
@@ -14,11 +16,11 @@ shutOut c lengths account l = eqb (numberFor c lengths) 0 && shut account l
 
 -- the number of a call to which the ledger is shut
 abbrev pub afterOthers : ℕ → ℕ
-afterOthers number = cond (eqb number 0) 9 number
+afterOthers number = cond (eqb number 0) (numberOf Refusal.Account) number
 
 -- what comes back
 unfoldable pub replied : Call → Lengths → ℕ → Ledger → Reply
-replied c lengths account l = cond (shutOut c lengths account l) (refused 9 (c .device)) (part.replied c lengths)
+replied c lengths account l = cond (shutOut c lengths account l) (refused (numberOf Refusal.Account) (c .device)) (part.replied c lengths)
 
 -- the result of a call: what comes back, what the memories then hold, and the ledger
 pub record Result : Type 0 where

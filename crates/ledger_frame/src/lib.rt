@@ -1,4 +1,4 @@
-// The ledger: busy ticks are billed to the account whose frame began the operation, whoever polls afterwards. It stands above the part and
+// One frame for an account: busy ticks are billed to the account whose frame began the operation, whoever polls afterwards. It stands above the part and
 // sees what that promises: refusal, outcome and busy ticks.
 use calls::Lengths;
 use calls::Signals;

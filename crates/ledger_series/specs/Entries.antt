@@ -51,10 +51,11 @@ next e b = books (replyTo e (b .device) (b .ledger) .device) (ledgerBy e (b .dev
 abbrev pub letThrough : Entry → Books → List Turn
 letThrough e b = cond (through.shutOut (callOf (e .turn) (b .device)) (lengthsOf (e .turn)) (e .account) (b .ledger)) [] (e .turn ∷ [])
 
--- the calls of a series, in order
+-- a call of a series
 abbrev pub doneOn : Entry → Books → Done
 doneOn e b = doneOf e (b .device) (b .ledger)
 
+-- all of them, in order
 abbrev pub calls : List Entry → Device → Ledger → List Done
 calls es d l = run.outputs next doneOn es (books d l)
 

@@ -8,7 +8,7 @@ use mathlib.Core.Path.{_≡_}
 use lib.ListN.{length, getD}
 use Rattle.device.specs.declared.Device.{Device}
 use Rattle.part.specs.Frame.{Call, Reply, numberFor, replyOf}
-use Rattle.operations.specs.Operations as memory
+use Rattle.operations.specs.Operations.{Operation}
 use Rattle.series.specs.Turns as turns
 use Rattle.series.specs.Turns.{Turn, callOf, lengthsOf}
 use Rattle.series.specs.Series as series
@@ -29,7 +29,7 @@ abbrev pub answersOf : List Done → List Reply
 answersOf cs = map (λ (c : Done). c .reply) cs
 
 -- the operations on the array that took effect in a series through the ledger: of the turns that it let through
-abbrev pub effects : List Entry → Device → Ledger → List memory.Operation
+abbrev pub effects : List Entry → Device → Ledger → List Operation
 effects es d l = turns.operations (turnsThrough es d l) d
 
 pub record Promises : Type 0 where

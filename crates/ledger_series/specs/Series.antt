@@ -42,10 +42,11 @@ results bs t = run.outputs next resultOf bs t
 abbrev pub end : List Booking → Desk → Desk
 end bs t = run.end next bs t
 
--- the steps that the ledger let through
+-- the step, unless the ledger shut it out
 abbrev pub letThrough : Booking → Desk → List Step
 letThrough b t = cond (shutOut (callOf (b .step .turn) (t .state .device)) (lengthsOf (b .step .turn)) (b .account) (t .ledger)) [] (b .step ∷ [])
 
+-- the steps that the ledger let through
 abbrev pub stepsThrough : List Booking → Desk → List Step
 stepsThrough bs t = run.gathered next letThrough bs t
 

@@ -64,11 +64,6 @@ all-anded (o ∷ os) k x e = by (erases o k) refl (all-anded os k (cellOf o k x)
     by true h ih e = absurd (true≢false e)
     by false h ih e = ih e ∙ (ap (λ (y : ℕ). andAll y (bytesAt os k)) (one-anded o k x h) ∙ sym (end-joined (λ b x. bitAnd x b) (byteOf o k) (bytesAt os k) x))
 
-all-since : (os : List Operation) (k : ℕ) → erasedIn os k ≡ false → since os k ≡ os
-unfolding since
-all-since [] k e = refl
-all-since (o ∷ os) k e = rw e
-
 -- the AND of all bytes programmed at the place since the last erase that covered it, from FFh or from what was there at first
 pub since-the-last-erase : (os : List Operation) (k x : ℕ) → through os k x ≡ andAll (startAt os k x) (bytesAt (since os k) k)
 unfolding through since erasedIn bytesAt andAll

@@ -10,10 +10,11 @@ use Rattle.pages.specs.Page.{aimedAt, last}
 use Rattle.cells.specs.Range.{range}
 use Rattle.operations.specs.Operations.{Operation, none, program, erase, cellOf}
 
--- the operations carried out, one after the other
+-- an operation carried out
 abbrev pub carried : Operation → List ℕ → List ℕ
 carried o xs = each (cellOf o) xs
 
+-- one after the other
 unfoldable pub applied : List Operation → List ℕ → List ℕ
 unfolding run.end
 applied os xs = run.end carried os xs

@@ -27,9 +27,13 @@ cellOf (erase from to) = erased from to
 abbrev pub span : ℕ → ℕ → Range
 span from to = record { from = from; to = to }
 
--- the range that an operation covers: the page of a program, the places of an erase, and none if there is no operation
+-- no place
+abbrev pub nowhere : Range
+nowhere = span 0 0
+
+-- the range that an operation lies in: the page of a program, the places of an erase
 abbrev pub rangeOf : Operation → Range
-rangeOf none = span 0 0
+rangeOf none = nowhere
 rangeOf (program size page start sent) = span page (page + size)
 rangeOf (erase from to) = span from to
 

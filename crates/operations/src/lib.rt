@@ -9,7 +9,8 @@ ghost use mathlib.Core.Path.{_≡_};
 ghost use Prim.Native.Nat.{_<_, _%_};
 ghost use lib.ListN.{length};
 ghost use Rattle.cells.specs.Each.{each};
-ghost use Rattle.operations.specs.Operations.{cellOf, widthOf, onArray, onRegister, span, rangeOf};
+ghost use Rattle.operations.specs.Operations.{cellOf, widthOf, onArray, onRegister, rangeOf};
+ghost use Rattle.operations.specs.Operations as spec;
 
 // The places of the array from `from` up to, not including, `to`.
 pub struct Range {
@@ -19,7 +20,7 @@ pub struct Range {
 
 // No place.
 pub fn nowhere() -> Range
-    ensures { λ r. ⌜ r ≡ span 0 0 ⌝ }
+    ensures { λ r. ⌜ r ≡ spec.nowhere ⌝ }
 {
     Range { from: 0, to: 0 }
 }
@@ -74,7 +75,7 @@ fn erase(array: &mut [u8], region: Region, input: &[u8]) -> Range
     Range { from, to }
 }
 
-// What is to be done with the memories is done. The answer is the range of the array that it covers.
+// What is to be done with the memories is done. The answer is the range of the array that it lies in.
 pub fn carry_out(action: Action, array: &mut [u8], register: &mut [u8], input: &[u8]) -> Range
     requires { ⌜ (0 < length (now array)) × (length (now array) % 65536 ≡ 0) × (length (now register) ≡ 128) ⌝ }
     ensures { λ r. ⌜ r ≡ rangeOf (onArray action (length (now (array .entry))) (now (input .entry))) ⌝ }

@@ -11,7 +11,6 @@ use Rattle.device.specs.declared.Device.{Device}
 use Rattle.judge.specs.declared.Outcome.{Outcome}
 use Rattle.refusals.specs.declared.Refusal.{Refusal}
 use Rattle.calls.specs.declared.Lengths.{Lengths}
-use Rattle.refusals.specs.Refusals.{numberOf}
 use Rattle.numbers.proofs.Tells.{tells}
 use Rattle.refusals.proofs.Numbers.{number-tells, never-255}
 use Rattle.calls.specs.Refusal.{refusalOf}

@@ -1,17 +1,16 @@
 -- The range of the array that a call covers: outside it no byte changed, and it is empty exactly if nothing took effect. Assumes nothing.
 use Prim.Native.Nat.{ℕ}
-use mathlib.Core.Bool.{Bool, true, false, cond, _&&_}
+use mathlib.Core.Bool.{Bool, true, false}
 use mathlib.Core.Path.{_≡_, refl, _∙_}
 use borrow.Author.Tests.{eqb-true}
 use lib.Dec.{ltb, eqb}
 use lib.ListN.{length, getD}
 use Rattle.cells.specs.Range.{range}
 use Rattle.cells.proofs.Places.{stays}
-use Rattle.judge.specs.Begins.{ready}
 use Rattle.calls.proofs.Accepting.{accepted}
 use Rattle.operations.specs.Operations.{cellOf, onArray}
 use Rattle.operations.proofs.Ranges.{outside, holds-a-place}
-use Rattle.part.specs.Frame.{Call, Lent, lengthsOf, numberFor, risen, factsOf, judgedOf, replied, frame}
+use Rattle.part.specs.Frame.{Call, Lent, lengthsOf, numberFor, judgedOf, replied, frame}
 use Rattle.part.specs.Effect.{takesEffect}
 use Rattle.part.proofs.Effects.{begins}
 

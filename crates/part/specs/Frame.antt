@@ -25,7 +25,7 @@ use Rattle.part.specs.declared.Answer.{Answer}
 use Rattle.part.specs.Words.{wordOf}
 use Rattle.output.specs.Time.{standing}
 use Rattle.operations.specs.declared.Range.{Range}
-use Rattle.operations.specs.Operations.{cellOf, onArray, onRegister, span, rangeOf}
+use Rattle.operations.specs.Operations.{cellOf, onArray, onRegister, nowhere, rangeOf}
 use Rattle.output.specs.Output.{store, readAt}
 
 -- what a call is handed, beside the memories: the record, the settings, the input bytes, and the bits clocked, WP's level, the ticks
@@ -84,7 +84,15 @@ risen c = standsAt c (bytesFor (c .signals .bits))
 -- what judging needs to know is taken from the frame; whether the part is busy, at the first bit
 abbrev pub factsFor : List ℕ → Signals → Bool → Facts
 factsFor input signals busy =
-    record { code = getD input 0 0; second = getD input 1 0; address = addressOf input; bytes = length input; bits = signals .bits; wp = signals .wp; busy = busy }
+    record {
+      code = getD input 0 0;
+      second = getD input 1 0;
+      address = addressOf input;
+      bytes = length input;
+      bits = signals .bits;
+      wp = signals .wp;
+      busy = busy;
+    }
 
 abbrev pub factsOf : Call → Facts
 factsOf c = factsFor (c .input) (c .signals) (isBusy (timed c))
@@ -102,9 +110,9 @@ abbrev pub answered : Judged → Range → Reply
 answered j covered =
     record { refusal = 0; outcome = wordOf (j .outcome); first = j .first; driven = j .driven; covered = covered; device = j .device }
 
--- and from a refused one: its number, the record untouched, nothing driven
+-- and from a refused one: its number, the record untouched, nothing driven, nothing covered
 abbrev pub refused : ℕ → Device → Reply
-refused number d = record { refusal = number; outcome = "nothing"; first = 0; driven = 0; covered = span 0 0; device = d }
+refused number d = record { refusal = number; outcome = "nothing"; first = 0; driven = 0; covered = nowhere; device = d }
 
 -- what comes back: of the memories only the lengths bear on it
 unfoldable pub replied : Call → Lengths → Reply
@@ -159,7 +167,7 @@ abbrev pub resultOf : Answer → Lent → Result
 resultOf a m = record { reply = replyOf a; lent = m }
 
 abbrev pub refusing : Refusal → Device → Answer
-refusing refusal d = record { refusal = refusal; outcome = Outcome.Nothing; first = 0; driven = 0; covered = span 0 0; device = d }
+refusing refusal d = record { refusal = refusal; outcome = Outcome.Nothing; first = 0; driven = 0; covered = nowhere; device = d }
 
 -- the contract of a call: its answer and what it leaves of the lent memories are the frame's
 abbrev pub Meets : Call → Lent → Answer → Lent → Type 0

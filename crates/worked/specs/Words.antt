@@ -8,7 +8,7 @@ use Rattle.device.specs.declared.Device.{Device}
 use Rattle.device.specs.Device.{fresh, withWel, withBusy}
 use Rattle.settings.specs.Settings.{typical}
 use Rattle.operations.specs.declared.Range.{Range}
-use Rattle.operations.specs.Operations.{span}
+use Rattle.operations.specs.Operations.{span, nowhere}
 use Rattle.worked.specs.Worked.{Sent, Came, Exchange, Piece, Row, canary}
 
 -- a record: BPL, BP0, WEL and the busy ticks; RSTE and the OTP-used mark clear, awake
@@ -49,7 +49,7 @@ replies number outcome first driven covered d output =
 
 -- from an accepted call that covers nothing; the byte after the frame's last is not written
 abbrev pub came : String → ℕ → ℕ → Device → List ℕ → Came
-came outcome first driven d output = replies 0 outcome first driven (span 0 0) d output
+came outcome first driven d output = replies 0 outcome first driven nowhere d output
 
 -- nothing driven: n bytes of FFh
 abbrev pub quiet : String → Device → ℕ → Came
@@ -61,7 +61,7 @@ begun from to d n = replies 0 "begun" 0 0 (span from to) d (replicate n 0xFF)
 
 -- from a refused one: the record as it came in, and the n bytes and one more as they were
 abbrev pub refused : ℕ → Device → ℕ → Came
-refused number d n = replies number "nothing" 0 0 (span 0 0) d (replicate n canary)
+refused number d n = replies number "nothing" 0 0 nowhere d (replicate n canary)
 
 infixr 5 _⇒_
 abbrev pub _⇒_ : Sent → Came → Exchange

@@ -6,7 +6,7 @@ use Rattle.face_frame.proofs.reply.Tie as tie
 
 returns : tie.Need-returns
 returns c = (
-  c .wide .ensures ∙ c .before .number .ensures,
+  c .as-word .ensures ∙ c .before .number .ensures,
   (
     rw (c .before .before .before .before .before .before .before .before .before .before .write .ensures .1, c .before .before .before .before .before .before .before .before .before .before .before .before .before .pack .ensures),
     rw (c .before .before .before .before .write2 .ensures .1, c .before .before .before .before .before .before .before .outcome-number .ensures),

@@ -13,7 +13,7 @@ returns : tie.Need-returns
 returns c =
     let made = c .before .before .before .before .before .before .before in
     let lent = sym (made .before .before .is-lent .ensures) ∙ made .before .if1 .taken in
-    let number = c .before .before .before .before .before .wide .ensures ∙ (c .before .before .before .before .before .before .number .ensures ∙ ap (λ (r : Reported). numberOf (r .refusal)) (made .report .ensures)) in
+    let number = c .before .before .before .before .before .as-word .ensures ∙ (c .before .before .before .before .before .before .number .ensures ∙ ap (λ (r : Reported). numberOf (r .refusal)) (made .report .ensures)) in
     (number ∙ rw lent, c .before .before .write .ensures .1 ∙ rw (number, made .report .ensures))
 
 returns-2 : tie.Need-returns-2
