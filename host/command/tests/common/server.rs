@@ -165,10 +165,12 @@ impl Client {
     }
 }
 
-/// The command with these words after `serve`.
+/// The command with these words after `serve`, and with signals as they are by default: who runs the tests may ignore some, as nohup does.
 pub fn command(words: &[&str]) -> Command {
-    let mut command = Command::new(env!("CARGO_BIN_EXE_oxterin"));
-    command.arg("serve").args(words);
+    let mut command = Command::new("env");
+    command
+        .args(["--default-signal=TERM,INT,HUP,USR1", env!("CARGO_BIN_EXE_oxterin"), "serve"])
+        .args(words);
     command
 }
 
