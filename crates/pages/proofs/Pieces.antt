@@ -13,18 +13,18 @@ use Rattle.pages.specs.Page.{andedIn}
 use Rattle.cells.proofs.Places.{each-alike, each-same, over-in, over-out}
 use Rattle.cells.proofs.Runs.{Reached, begins, goes-on, ends, range-in, range-before, range-behind}
 
--- the part of a list from one place up to another
-abbrev pub part : ℕ → ℕ → List ℕ → List ℕ
-part from to xs = take (to - from) (drop from xs)
+-- the piece of a list from one place up to another
+abbrev pub piece : ℕ → ℕ → List ℕ → List ℕ
+piece from to xs = take (to - from) (drop from xs)
 
-pub part-long : (from to : ℕ) (xs : List ℕ) → to ≤ length xs → length (part from to xs) ≡ to - from
-part-long from to xs l = length-take-le (to - from) (drop from xs) (omega (arith, length-drop from xs))
+pub piece-long : (from to : ℕ) (xs : List ℕ) → to ≤ length xs → length (piece from to xs) ≡ to - from
+piece-long from to xs l = length-take-le (to - from) (drop from xs) (omega (arith, length-drop from xs))
 
-pub part-at : (from to : ℕ) (xs : List ℕ) (j : ℕ) → j < to - from → getD (part from to xs) j 0 ≡ getD xs (from + j) 0
-part-at from to xs j l = getD-take (to - from) (drop from xs) j 0 l ∙ getD-drop from xs j 0
+pub piece-at : (from to : ℕ) (xs : List ℕ) (j : ℕ) → j < to - from → getD (piece from to xs) j 0 ≡ getD xs (from + j) 0
+piece-at from to xs j l = getD-take (to - from) (drop from xs) j 0 l ∙ getD-drop from xs j 0
 
 -- from its end on a list is as empty as from any place behind it
-pub from-the-end : (at from : ℕ) (xs : List ℕ) → at ≡ min from (length xs) → part at (length xs) xs ≡ drop from xs
+pub from-the-end : (at from : ℕ) (xs : List ℕ) → at ≡ min from (length xs) → piece at (length xs) xs ≡ drop from xs
 from-the-end at from xs e = take-all (length xs - at) (drop at xs) (omega (arith, length-drop at xs)) ∙ by (decLt from (length xs))
   where
     by : Dec (from < length xs) → drop at xs ≡ drop from xs

@@ -62,7 +62,7 @@ module _ (size page start : ℕ) (sent buffer xs : List ℕ) (filling : buffer �
       each-alike (andedIn page buffer) (programmed size page start sent) xs
       (λ k l. placed k (getD xs k 0) (bytes k) (range page (page + size) k) refl)
 
--- The data in two parts: the second part replaces what the first one left.
+-- The data in two pieces: the second one replaces what the first one left.
 last-split : (size start : ℕ) (sent : List ℕ) (m n p x : ℕ) → last size start sent (m + n) p x ≡ last size (start + m) (drop m sent) n p (last size start sent m p x)
 unfolding last
 last-split size start sent m zero p x = rw (add-zero m)

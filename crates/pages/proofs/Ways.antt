@@ -15,7 +15,7 @@ use Rattle.cells.proofs.Places.{each-then, over-in, over-out}
 use Rattle.cells.proofs.Runs.{range-in, range-before, range-behind}
 use Rattle.pages.proofs.Programs.{covered-at, buffered}
 use Rattle.pages.proofs.Aims.{last-aimed, none-aims}
-use Rattle.pages.proofs.Pieces.{part, part-long, part-at, anded-there, not-before, not-behind, none-left}
+use Rattle.pages.proofs.Pieces.{piece, piece-long, piece-at, anded-there, not-before, not-behind, none-left}
 
 -- The program without a page buffer: of the data the last `count` bytes are ANDed, as many as there is room for in one run from
 -- `offset` up to the page's end, and those that are left from the page's beginning on.
@@ -23,16 +23,16 @@ module _ (size page start : ℕ) (sent : List ℕ) (count skipped offset room st
     (s : count + skipped ≡ length sent) (o : offset ≡ (start + skipped) % size) (r : offset + room ≡ size) (a : straight ≡ min count room)
     (l : straight + left ≡ count) where
   abbrev run : List ℕ
-  run = part skipped (skipped + straight) sent
+  run = piece skipped (skipped + straight) sent
 
   abbrev rest : List ℕ
-  rest = part (skipped + straight) (length sent) sent
+  rest = piece (skipped + straight) (length sent) sent
 
   run-long : length run ≡ straight
-  run-long = omega (arith, part-long skipped (skipped + straight) sent (omega arith))
+  run-long = omega (arith, piece-long skipped (skipped + straight) sent (omega arith))
 
   rest-long : length rest ≡ left
-  rest-long = omega (arith, part-long (skipped + straight) (length sent) sent (omega arith))
+  rest-long = omega (arith, piece-long (skipped + straight) (length sent) sent (omega arith))
 
   -- where the j-th of the bytes that count aims
   aim : (j p : ℕ) → (offset + j) % size ≡ p → (start + (skipped + j)) % size ≡ p
@@ -71,7 +71,7 @@ module _ (size page start : ℕ) (sent : List ℕ) (count skipped offset room st
       by : Dec (k < page + left) → andedIn page rest k x ≡ programmed size page start sent k x
       by (yes m) =
           anded-there page rest k x (k - page) (omega arith) (omega (arith, rest-long)) ∙
-          (ap (bitAnd x) (part-at (skipped + straight) (length sent) sent (k - page) (omega arith) ∙ ap (λ (i : ℕ). getD sent i 0) (omega arith)) ∙
+          (ap (bitAnd x) (piece-at (skipped + straight) (length sent) sent (k - page) (omega arith) ∙ ap (λ (i : ℕ). getD sent i 0) (omega arith)) ∙
           sym (hit k x j p (omega arith) (omega arith) e (omega arith)))
       by (no m) = not-behind page rest k x (omega (arith, rest-long)) ∙ sym (missed k x j p (omega arith) (omega arith) e (omega arith))
 
@@ -89,7 +89,7 @@ module _ (size page start : ℕ) (sent : List ℕ) (count skipped offset room st
       by : Dec (k < page + offset + straight) → andedIn (page + offset) run k x ≡ programmed size page start sent k x
       by (yes m) =
           anded-there (page + offset) run k x j (omega arith) (omega (arith, run-long)) ∙
-          (ap (bitAnd x) (part-at skipped (skipped + straight) sent j (omega arith)) ∙
+          (ap (bitAnd x) (piece-at skipped (skipped + straight) sent j (omega arith)) ∙
           sym (hit k x j (omega arith) q (omega arith) e (omega arith)))
       by (no m) =
           not-behind (page + offset) run k x (omega (arith, run-long)) ∙ sym (missed k x j (omega arith) q (omega arith) e (omega arith))
@@ -123,7 +123,7 @@ pub at-once : (size page start : ℕ) (sent xs : List ℕ) → start < size → 
     → each (andedIn (page + start) sent) xs ≡ each (programmed size page start sent) xs
 at-once size page start sent xs p q =
     let n : ℕ = length sent in
-    sym (none-left page (part (0 + n) n sent) (each (andedIn (page + start) sent) xs) (omega (arith, part-long (0 + n) n sent (omega arith)))) ∙
-    (ap (λ (run : List ℕ). each (andedIn page (part (0 + n) n sent)) (each (andedIn (page + start) run) xs)) (sym (take-all (0 + n - 0) sent (omega arith))) ∙
+    sym (none-left page (piece (0 + n) n sent) (each (andedIn (page + start) sent) xs) (omega (arith, piece-long (0 + n) n sent (omega arith)))) ∙
+    (ap (λ (run : List ℕ). each (andedIn page (piece (0 + n) n sent)) (each (andedIn (page + start) run) xs)) (sym (take-all (0 + n - 0) sent (omega arith))) ∙
     in-runs size page start sent n 0 start (size - start) n 0 (omega arith) (add-zero n) (sym (rw (add-zero start) (mod-eq-of-lt p))) (omega arith) (omega arith)
     (add-zero n) xs)

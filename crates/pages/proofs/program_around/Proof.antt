@@ -6,7 +6,7 @@ use borrow.Author.Needs.{needs}
 use lib.ListN.{length}
 use Rattle.cells.specs.Each.{each}
 use Rattle.pages.specs.Page.{andedIn}
-use Rattle.pages.proofs.Pieces.{part}
+use Rattle.pages.proofs.Pieces.{piece}
 use Rattle.pages.proofs.Ways.{in-runs}
 use Rattle.pages.proofs.program_around.Statement.{statement}
 use Rattle.pages.proofs.program_around.Tie as tie
@@ -24,7 +24,7 @@ returns c =
     let offset = b .before .wrapped .result in
     let straight = b .lesser2 .result in
     c .before .before .and-each2 .ensures ∙
-    (ap (each (andedIn (a .page) (part (n - count + straight) n (a .sent .now)))) (c .before .before .before .before .before .before .before .and-each .ensures) ∙
+    (ap (each (andedIn (a .page) (piece (n - count + straight) n (a .sent .now)))) (c .before .before .before .before .before .before .before .and-each .ensures) ∙
     in-runs (a .size) (a .page) (a .start) (a .sent .now) count (n - count) offset (a .size - offset) straight (count - straight)
     (b .before .before .lesser .ensures) (and-left n (a .size) count (b .before .before .lesser .ensures)) (b .before .wrapped .ensures .0) (omega arith) (b .lesser2 .ensures)
     (and-left count (a .size - offset) straight (b .lesser2 .ensures)) (a .memory .now))

@@ -7,14 +7,14 @@ use borrow.Author.Needs.{needs}
 use lib.ListN.{length, drop}
 use Rattle.cells.specs.Each.{each}
 use Rattle.pages.specs.Page.{programmed}
-use Rattle.pages.proofs.Pieces.{part, from-the-end}
+use Rattle.pages.proofs.Pieces.{piece, from-the-end}
 use Rattle.pages.proofs.Ways.{at-once}
 use Rattle.pages.proofs.program_page.Statement.{statement}
 use Rattle.pages.proofs.program_page.Tie as tie
 
 -- a program with the source from the end at the latest is one with the source from where it was asked
 asked : (c : tie.After-lesser) (xs : List ℕ) → let a = c .before .before .before .args in
-    xs ≡ each (programmed (a .size) (a .page) (a .start) (part (c .lesser .result) (length (a .source .now)) (a .source .now))) (a .memory .now)
+    xs ≡ each (programmed (a .size) (a .page) (a .start) (piece (c .lesser .result) (length (a .source .now)) (a .source .now))) (a .memory .now)
     → xs ≡ each (programmed (a .size) (a .page) (a .start) (drop (a .from) (a .source .now))) (a .memory .now)
 asked c xs e =
     let a = c .before .before .before .args in
@@ -26,7 +26,7 @@ returns : tie.Need-returns
 returns c =
     let start = c .before .before .before .before .before .before .before .before .before in
     let a = start .args in
-    let sent = part (c .before .before .before .before .before .before .lesser .result) (length (a .source .now)) (a .source .now) in
+    let sent = piece (c .before .before .before .before .before .before .lesser .result) (length (a .source .now)) (a .source .now) in
     asked (c .before .before .before .before .before .before) _
     (c .before .before .and-in .ensures ∙
     at-once (a .size) (a .page) (a .start) sent (a .memory .now) (start .pre .1) (c .before .before .before .before .if1 .taken))
