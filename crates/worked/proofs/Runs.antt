@@ -74,8 +74,8 @@ unfolding next
 left-told s t =
     rw (reply-is s (stateOf t), array-is s (stateOf t), register-is s (stateOf t), goes-on (effectOf (s .turn) (t .device)) (t .array), goes-on (onceOf (s .turn) (t .device)) (t .register))
 
-module _ (s : Step) (t : Scene) (has : 0 < t .array .plain .size) (holds : 0 < t .register .plain .size)
-    (whole : Whole (t .array .plain .size) (t .register .plain .size) s) where
+module _ (s : Step) (t : Scene) (has : 0 < t .array .content .size) (holds : 0 < t .register .content .size)
+    (whole : Whole (t .array .content .size) (t .register .content .size) s) where
   abbrev c : Call
   c = callOf (s .turn) (t .device)
 
@@ -110,8 +110,8 @@ unfoldable pub AllWhole : ℕ → ℕ → List Step → Type 0
 AllWhole size other [] = Unit
 AllWhole size other (s ∷ ss) = Whole size other s × AllWhole size other ss
 
-pub all-told : (ss : List Step) (t : Scene) → 0 < t .array .plain .size → 0 < t .register .plain .size
-    → AllWhole (t .array .plain .size) (t .register .plain .size) ss → map cameOf (results ss (stateOf t)) ≡ allTold ss t
+pub all-told : (ss : List Step) (t : Scene) → 0 < t .array .content .size → 0 < t .register .content .size
+    → AllWhole (t .array .content .size) (t .register .content .size) ss → map cameOf (results ss (stateOf t)) ≡ allTold ss t
 unfolding run.gathered next AllWhole
 all-told [] t has holds whole = refl
 all-told (s ∷ ss) t has holds whole =
@@ -121,6 +121,6 @@ pub end-told : (ss : List Step) (t : Scene) → end ss (stateOf t) ≡ stateOf (
 end-told ss t = sym (end-forgets next series.next stateOf (λ s t. sym (left-told s t)) ss t)
 
 -- what the memories held at first stays
-pub end-plain : (ss : List Step) (t : Scene) → (endTold ss t .array .plain ≡ t .array .plain) × (endTold ss t .register .plain ≡ t .register .plain)
+pub end-content : (ss : List Step) (t : Scene) → (endTold ss t .array .content ≡ t .array .content) × (endTold ss t .register .content ≡ t .register .content)
 unfolding next
-end-plain ss t = kept next (λ (u : Scene). (u .array .plain ≡ t .array .plain) × (u .register .plain ≡ t .register .plain)) (λ s u p. p) ss t (refl, refl)
+end-content ss t = kept next (λ (u : Scene). (u .array .content ≡ t .array .content) × (u .register .content ≡ t .register .content)) (λ s u p. p) ss t (refl, refl)

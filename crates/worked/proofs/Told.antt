@@ -1,10 +1,10 @@
--- A memory told by its size, the byte that each place held at first, and the operations since then. What it holds is known without the
+-- A memory told by what it held at first and the operations since then. What it holds is known without the
 -- list of its bytes. Assumes nothing.
-use Prim.Native.Nat.{ℕ, _+_, _-_, _%_, _<_, _≤_}
+use Prim.Native.Nat.{ℕ, zero, suc, _+_, _-_, _*_, _%_, _<_, _≤_}
 use mathlib.Core.Bool.{Bool, true, false, cond, _&&_, _||_, and-eq-true-iff}
 use mathlib.Core.List.{List, [], _∷_, _++_}
 use mathlib.Core.Path.{_≡_, refl, sym, ap, _∙_}
-use native.Mathlib.Nat.{mod-lt}
+use native.Mathlib.Nat.{mod-lt, zero-mul}
 use native.Mathlib.Omega.{arith}
 use borrow.Author.Tests.{leb-true, eqb-true}
 use lib.Bits.{bitOr}
@@ -12,7 +12,7 @@ use lib.Dec.{leb, eqb}
 use lib.ListN.{length, getD, length-replicate, getD-replicate}
 use Rattle.cells.specs.Each.{Cell, each, over}
 use Rattle.cells.specs.Range.{range}
-use Rattle.cells.proofs.Places.{getD-each, each-alike, over-alike}
+use Rattle.cells.proofs.Places.{getD-each, length-each, each-alike, over-alike}
 use Rattle.cells.proofs.Runs.{range-in, range-before, range-behind}
 use Rattle.opcodes.specs.declared.Source.{Source}
 use Rattle.opcodes.specs.declared.Source.the-variants.{Array, Register, Status, Identity, Legacy}
@@ -23,31 +23,30 @@ use Rattle.operations.specs.Operations.{Operation, none, program, erase, cellOf
 use Rattle.output.specs.Output.{Store, store, storeOf, startOf, byteFrom, lineAt, unclocked, readAt}
 use Rattle.operations.specs.Bytes.{applied}
 use Rattle.operations.proofs.Applied.{applied-joined, applied-each, length-applied, through}
-use Rattle.worked.specs.Worked.{Piece, blank, painted}
+use Rattle.worked.specs.Worked.{Piece, Content, blank, painted, contentOf}
 use Rattle.worked.proofs.Halves.{everywhere, halved, at-each}
 
--- one byte everywhere
-pub record Plain : Type 0 where
-  pub size : ℕ
-  pub holds : ℕ
-
--- and the operations since then, in order
+-- what it held at first, and the operations since then, in order
 pub record Told : Type 0 where
-  pub plain : Plain
+  pub content : Content
   pub done : List Operation
 
-abbrev pub told : ℕ → ℕ → Told
-told size holds = record { plain = record { size = size; holds = holds }; done = [] }
+abbrev pub told : Content → Told
+told content = record { content = content; done = [] }
 
 abbrev pub more : List Operation → Told → Told
-more os t = record { plain = t .plain; done = t .done ++ os }
+more os t = record { content = t .content; done = t .done ++ os }
+
+-- the byte that a place held at first
+abbrev pub firstAt : Content → ℕ → ℕ
+firstAt c k = painted (c .pieces) k (c .holds)
 
 -- the memory, and the same as a store that is computed
 unfoldable pub memoryOf : Told → List ℕ
-memoryOf t = applied (t .done) (blank (t .plain .size) (t .plain .holds))
+memoryOf t = applied (t .done) (contentOf (t .content))
 
 abbrev pub toldStore : Told → Store
-toldStore t = record { size = t .plain .size; at = λ k. through (t .done) k (t .plain .holds) }
+toldStore t = record { size = t .content .size; at = λ k. through (t .done) k (firstAt (t .content) k) }
 
 pub length-blank : (size byte : ℕ) → length (blank size byte) ≡ size
 unfolding blank
@@ -57,29 +56,37 @@ pub getD-blank : (size byte k : ℕ) → k < size → getD (blank size byte) k 0
 unfolding blank
 getD-blank size byte k l = getD-replicate {A = ℕ} size k byte 0 l
 
-pub begins-blank : (size holds : ℕ) → blank size holds ≡ memoryOf (told size holds)
+length-content : (c : Content) → length (contentOf c) ≡ c .size
+length-content c = length-each (painted (c .pieces)) (blank (c .size) (c .holds)) ∙ length-blank (c .size) (c .holds)
+
+getD-content : (c : Content) (k : ℕ) → k < c .size → getD (contentOf c) k 0 ≡ firstAt c k
+getD-content c k l =
+    getD-each (painted (c .pieces)) (blank (c .size) (c .holds)) k 0 (omega (arith, length-blank (c .size) (c .holds))) ∙
+    ap (painted (c .pieces) k) (getD-blank (c .size) (c .holds) k l)
+
+pub begins-content : (c : Content) → contentOf c ≡ memoryOf (told c)
 unfolding memoryOf applied
-begins-blank size holds = refl
+begins-content c = refl
 
-pub length-told : (t : Told) → length (memoryOf t) ≡ t .plain .size
+pub length-told : (t : Told) → length (memoryOf t) ≡ t .content .size
 unfolding memoryOf
-length-told t = length-applied (t .done) (blank (t .plain .size) (t .plain .holds)) ∙ length-blank (t .plain .size) (t .plain .holds)
+length-told t = length-applied (t .done) (contentOf (t .content)) ∙ length-content (t .content)
 
-getD-told : (t : Told) (k : ℕ) → k < t .plain .size → getD (memoryOf t) k 0 ≡ through (t .done) k (t .plain .holds)
+getD-told : (t : Told) (k : ℕ) → k < t .content .size → getD (memoryOf t) k 0 ≡ through (t .done) k (firstAt (t .content) k)
 unfolding memoryOf
 getD-told t k l =
-    ap (λ (xs : List ℕ). getD xs k 0) (applied-each (t .done) (blank (t .plain .size) (t .plain .holds))) ∙
-    (getD-each (through (t .done)) (blank (t .plain .size) (t .plain .holds)) k 0 (omega (arith, length-blank (t .plain .size) (t .plain .holds))) ∙
-    ap (through (t .done) k) (getD-blank (t .plain .size) (t .plain .holds) k l))
+    ap (λ (xs : List ℕ). getD xs k 0) (applied-each (t .done) (contentOf (t .content))) ∙
+    (getD-each (through (t .done)) (contentOf (t .content)) k 0 (omega (arith, length-content (t .content))) ∙
+    ap (through (t .done) k) (getD-content (t .content) k l))
 
 pub goes-on : (os : List Operation) (t : Told) → applied os (memoryOf t) ≡ memoryOf (more os t)
 unfolding memoryOf
-goes-on os t = sym (applied-joined (t .done) os (blank (t .plain .size) (t .plain .holds)))
+goes-on os t = sym (applied-joined (t .done) os (contentOf (t .content)))
 
 -- A read of the memory is a read of the store that is computed.
-module _ (array register : Told) (has : 0 < array .plain .size) (holds : 0 < register .plain .size) where
-  fetched : (t : Told) → 0 < t .plain .size → (start i : ℕ) → byteFrom (store (memoryOf t)) start i ≡ byteFrom (toldStore t) start i
-  fetched t p start i = rw (length-told t) (getD-told t ((start + i) % t .plain .size) (mod-lt (start + i) p))
+module _ (array register : Told) (has : 0 < array .content .size) (holds : 0 < register .content .size) where
+  fetched : (t : Told) → 0 < t .content .size → (start i : ℕ) → byteFrom (store (memoryOf t)) start i ≡ byteFrom (toldStore t) start i
+  fetched t p start i = rw (length-told t) (getD-told t ((start + i) % t .content .size) (mod-lt (start + i) p))
 
   from-source : (source : Source) (d : Device) (wp : Bool) (start i : ℕ)
       → byteFrom (storeOf source d wp (store (memoryOf array)) (store (memoryOf register))) start i
@@ -134,9 +141,14 @@ unfoldable pub steadyOperations : List Operation → ℕ → ℕ → Bool
 steadyOperations [] low n = true
 steadyOperations (o ∷ os) low n = steadyFor o low n && steadyOperations os low n
 
+-- a piece that rises is steady only outside its range
+unfoldable pub steadyPiece : ℕ → ℕ → ℕ → ℕ → ℕ → Bool
+steadyPiece zero from to low n = one-side from to low n
+steadyPiece (suc step) from to low n = apart from to low n
+
 unfoldable pub steadyPieces : List Piece → ℕ → ℕ → Bool
 steadyPieces [] low n = true
-steadyPieces (p ∷ ps) low n = one-side (p .from) (p .to) low n && steadyPieces ps low n
+steadyPieces (p ∷ ps) low n = steadyPiece (p .step) (p .from) (p .to) low n && steadyPieces ps low n
 
 module _ (low n k : ℕ) (p : low ≤ k) (q : k < low + n) where
   left-out : (from to : ℕ) → apart from to low n ≡ true → (range from to k ≡ false) × (range from to low ≡ false)
@@ -172,38 +184,53 @@ module _ (low n k : ℕ) (p : low ≤ k) (q : k < low + n) where
       let w : (steadyFor o low n ≡ true) × (steadyOperations os low n ≡ true) = and-eq-true-iff (steadyFor o low n) (steadyOperations os low n) .0 e in
       ap (through os k) (steady-cell o x (w .0)) ∙ steady-through os (cellOf o low x) (w .1)
 
-  steady-painted : (ps : List Piece) (x : ℕ) → steadyPieces ps low n ≡ true → painted ps k x ≡ painted ps low x
+  -- what a piece makes of a byte at a place
+  steady-piece : (step from to value x y : ℕ) → steadyPiece step from to low n ≡ true → x ≡ y
+      → cond (range from to k) ((value + step * (k - from)) % 256) x ≡ cond (range from to low) ((value + step * (low - from)) % 256) y
+  unfolding steadyPiece
+  steady-piece zero from to value x y e same = rw (zero-mul (k - from), zero-mul (low - from), same-side from to e, same)
+  steady-piece (suc step) from to value x y e same = rw (left-out from to e .0, left-out from to e .1) same
+
+  steady-painted : (ps : List Piece) (x y : ℕ) → steadyPieces ps low n ≡ true → x ≡ y → painted ps k x ≡ painted ps low y
   unfolding painted steadyPieces
-  steady-painted [] x e = refl
-  steady-painted (piece ∷ ps) x e =
-      let w : (one-side (piece .from) (piece .to) low n ≡ true) × (steadyPieces ps low n ≡ true) =
-      and-eq-true-iff (one-side (piece .from) (piece .to) low n) (steadyPieces ps low n) .0 e in
-      rw (same-side (piece .from) (piece .to) (w .0), steady-painted ps x (w .1))
+  steady-painted [] x y e same = same
+  steady-painted (piece ∷ ps) x y e same =
+      let w = and-eq-true-iff (steadyPiece (piece .step) (piece .from) (piece .to) low n) (steadyPieces ps low n) .0 e in
+      steady-piece (piece .step) (piece .from) (piece .to) (piece .value) (painted ps k x) (painted ps low y) (w .0) (steady-painted ps x y (w .1) same)
 
--- the operations leave what the pieces say, at each place below 2 ^ 17
-unfoldable pub agrees : List Operation → List Piece → ℕ → Bool
-unfolding everywhere halved steadyFor steadyOperations steadyPieces apart inside one-side through painted
-agrees os ps x =
-    everywhere (λ k. eqb (through os k x) (painted ps k x)) (λ low n. steadyOperations os low n && steadyPieces ps low n) 17 0
+-- of a memory that held this at first the operations leave what the pieces say, at each place below 2 ^ 17
+unfoldable pub agrees : List Operation → List Piece → Content → Bool
+unfolding everywhere halved steadyFor steadyOperations steadyPiece steadyPieces apart inside one-side through painted
+agrees os ps c =
+    everywhere (λ k. eqb (through os k (firstAt c k)) (painted ps k (firstAt c k)))
+    (λ low n. steadyOperations os low n && (steadyPieces ps low n && steadyPieces (c .pieces) low n)) 17 0
 
-pub painted-told : (t : Told) (ps : List Piece) → t .plain .size ≤ 131072 → agrees (t .done) ps (t .plain .holds) ≡ true
-    → memoryOf t ≡ each (painted ps) (blank (t .plain .size) (t .plain .holds))
+pub painted-told : (t : Told) (ps : List Piece) → t .content .size ≤ 131072 → agrees (t .done) ps (t .content) ≡ true
+    → memoryOf t ≡ each (painted ps) (contentOf (t .content))
 unfolding memoryOf agrees
 painted-told t ps fits e =
-    applied-each (t .done) (blank (t .plain .size) (t .plain .holds)) ∙
-    each-alike (through (t .done)) (painted ps) (blank (t .plain .size) (t .plain .holds))
+    applied-each (t .done) (contentOf (t .content)) ∙
+    each-alike (through (t .done)) (painted ps) (contentOf (t .content))
     (λ k l.
-    let m : k < t .plain .size = omega (arith, length-blank (t .plain .size) (t .plain .holds)) in
-    rw (getD-blank (t .plain .size) (t .plain .holds) k m) (eqb-true (through (t .done) k (t .plain .holds)) (painted ps k (t .plain .holds)) (at-each test steady sound 17 0 k e (omega arith) (omega arith))))
+    let m : k < t .content .size = omega (arith, length-content (t .content)) in
+    rw (getD-content (t .content) k m) (eqb-true (through (t .done) k (first k)) (painted ps k (first k)) (at-each test steady sound 17 0 k e (omega arith) (omega arith))))
   where
+    first : ℕ → ℕ
+    first k = firstAt (t .content) k
+
     test : ℕ → Bool
-    test k = eqb (through (t .done) k (t .plain .holds)) (painted ps k (t .plain .holds))
+    test k = eqb (through (t .done) k (first k)) (painted ps k (first k))
 
     steady : ℕ → ℕ → Bool
-    steady low n = steadyOperations (t .done) low n && steadyPieces ps low n
+    steady low n = steadyOperations (t .done) low n && (steadyPieces ps low n && steadyPieces (t .content .pieces) low n)
 
     sound : (low n k : ℕ) → steady low n ≡ true → low ≤ k → k < low + n → test k ≡ test low
     sound low n k s p q =
-        let w : (steadyOperations (t .done) low n ≡ true) × (steadyPieces ps low n ≡ true) =
-        and-eq-true-iff (steadyOperations (t .done) low n) (steadyPieces ps low n) .0 s in
-        rw (steady-through low n k p q (t .done) (t .plain .holds) (w .0), steady-painted low n k p q ps (t .plain .holds) (w .1))
+        let w = and-eq-true-iff (steadyOperations (t .done) low n) (steadyPieces ps low n && steadyPieces (t .content .pieces) low n) .0 s in
+        let both = and-eq-true-iff (steadyPieces ps low n) (steadyPieces (t .content .pieces) low n) .0 (w .1) in
+        let same : first k ≡ first low = steady-painted low n k p q (t .content .pieces) (t .content .holds) (t .content .holds) (both .1) refl in
+        rw (
+          steady-through low n k p q (t .done) (first k) (w .0),
+          steady-painted low n k p q ps (first k) (first low) (both .0) same,
+          same,
+        )

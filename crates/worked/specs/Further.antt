@@ -5,14 +5,12 @@ use mathlib.Core.List.{List, [], _∷_}
 use Rattle.device.specs.declared.Device.{Device}
 use Rattle.device.specs.declared.Mode.{Mode}
 use Rattle.device.specs.declared.Mode.the-variants.{Awake, Deep, UltraDeep}
-use Rattle.device.specs.Device.{fresh, withWel, withRste, withUsed, withMode, withBusy}
-use Rattle.settings.specs.Settings.{typical}
 use Rattle.worked.specs.Worked.{Exchange, Row}
-use Rattle.worked.specs.Words.{stands, idle, enabled, busy, clocked, whole, low, came, quiet, begun, refused, _⇒_, piece, row}
+use Rattle.worked.specs.Words.{held, stands, idle, enabled, busy, clocked, whole, low, came, quiet, begun, refused, _⇒_, piece, row, sized, registered}
 
 -- a record of a part that is not protected, with all else said
 abbrev told : Bool → Bool → Bool → Mode → ℕ → Device
-told wel rste used mode busy = withBusy (withMode (withRste (withWel (fresh false false used) wel) rste) mode) busy
+told wel rste used mode busy = held false false wel rste used mode busy
 
 -- 03 and 0B: data from position 4, or 5; a read too short to drive anything is a read
 abbrev reads : Row
@@ -94,22 +92,15 @@ aborts =
 -- BP0 keeps programs and erases of the array from being carried out, and not the OTP program
 abbrev protected : Row
 protected =
-    record {
-      settings = typical;
-      device = stands false true true 0;
-      size = 131072;
-      holds = 0x00;
-      exchanges =
-          (whole (0x02 ∷ 0x00 ∷ 0x00 ∷ 0x00 ∷ 0xFF ∷ []) 0 ⇒ quiet "aborted" (stands false true false 0) 5) ∷
-          (whole (0x06 ∷ []) 0 ⇒ quiet "control" (stands false true true 0) 1) ∷
-          (whole (0xC7 ∷ []) 0 ⇒ quiet "aborted" (stands false true false 0) 1) ∷
-          (whole (0x06 ∷ []) 0 ⇒ quiet "control" (stands false true true 0) 1) ∷
-          (whole (0x9B ∷ 0x00 ∷ 0x00 ∷ 0x02 ∷ 0x77 ∷ []) 0 ⇒
-          quiet "begun" (withUsed (stands false true false 400) true) 5) ∷
-          [];
-      array = [];
-      register = piece 2 3 0x77 ∷ [];
-    }
+    registered 128 [] (piece 2 3 0x77 ∷ [])
+    (row (stands false true true 0) 0x00
+    ((whole (0x02 ∷ 0x00 ∷ 0x00 ∷ 0x00 ∷ 0xFF ∷ []) 0 ⇒ quiet "aborted" (stands false true false 0) 5) ∷
+    (whole (0x06 ∷ []) 0 ⇒ quiet "control" (stands false true true 0) 1) ∷
+    (whole (0xC7 ∷ []) 0 ⇒ quiet "aborted" (stands false true false 0) 1) ∷
+    (whole (0x06 ∷ []) 0 ⇒ quiet "control" (stands false true true 0) 1) ∷
+    (whole (0x9B ∷ 0x00 ∷ 0x00 ∷ 0x02 ∷ 0x77 ∷ []) 0 ⇒ quiet "begun" (held false true false false true Awake 400) 5) ∷
+    [])
+    [])
 
 -- the other erases and their durations: 81, 52 and the three of the whole chip, with any address bytes
 abbrev erases : ℕ → List ℕ → ℕ → ℕ → ℕ → ℕ → Row
@@ -133,23 +124,17 @@ chip-erase-62 = erases 0x62 [] 1 1600000 0 0x20000
 -- 9B and 77: the data wraps in the user's 64 bytes, the read at 128; a second OTP program is aborted
 abbrev otp : Row
 otp =
-    record {
-      settings = typical;
-      device = enabled;
-      size = 131072;
-      holds = 0xFF;
-      exchanges =
-          (whole (0x9B ∷ 0xFF ∷ 0xFF ∷ 0xFF ∷ 0xA1 ∷ 0xA2 ∷ []) 0 ⇒ quiet "begun" (told false false true Awake 400) 6) ∷
-          (whole (0x77 ∷ 0x00 ∷ 0x00 ∷ 0x3F ∷ 0x00 ∷ 0x00 ∷ 0x00 ∷ 0x00 ∷ []) 400 ⇒
-          came "read" 6 2 (told false false true Awake 0) (0xFF ∷ 0xFF ∷ 0xFF ∷ 0xFF ∷ 0xFF ∷ 0xFF ∷ 0xA1 ∷ 0xFF ∷ [])) ∷
-          (whole (0x77 ∷ 0x12 ∷ 0x34 ∷ 0xFF ∷ 0x00 ∷ 0x00 ∷ 0x00 ∷ 0x00 ∷ []) 0 ⇒
-          came "read" 6 2 (told false false true Awake 0) (0xFF ∷ 0xFF ∷ 0xFF ∷ 0xFF ∷ 0xFF ∷ 0xFF ∷ 0xFF ∷ 0xA2 ∷ [])) ∷
-          (whole (0x06 ∷ []) 0 ⇒ quiet "control" (told true false true Awake 0) 1) ∷
-          (whole (0x9B ∷ 0x00 ∷ 0x00 ∷ 0x00 ∷ 0x00 ∷ []) 0 ⇒ quiet "aborted" (told false false true Awake 0) 5) ∷
-          [];
-      array = [];
-      register = piece 63 64 0xA1 ∷ piece 0 1 0xA2 ∷ [];
-    }
+    registered 128 [] (piece 63 64 0xA1 ∷ piece 0 1 0xA2 ∷ [])
+    (row enabled 0xFF
+    ((whole (0x9B ∷ 0xFF ∷ 0xFF ∷ 0xFF ∷ 0xA1 ∷ 0xA2 ∷ []) 0 ⇒ quiet "begun" (told false false true Awake 400) 6) ∷
+    (whole (0x77 ∷ 0x00 ∷ 0x00 ∷ 0x3F ∷ 0x00 ∷ 0x00 ∷ 0x00 ∷ 0x00 ∷ []) 400 ⇒
+    came "read" 6 2 (told false false true Awake 0) (0xFF ∷ 0xFF ∷ 0xFF ∷ 0xFF ∷ 0xFF ∷ 0xFF ∷ 0xA1 ∷ 0xFF ∷ [])) ∷
+    (whole (0x77 ∷ 0x12 ∷ 0x34 ∷ 0xFF ∷ 0x00 ∷ 0x00 ∷ 0x00 ∷ 0x00 ∷ []) 0 ⇒
+    came "read" 6 2 (told false false true Awake 0) (0xFF ∷ 0xFF ∷ 0xFF ∷ 0xFF ∷ 0xFF ∷ 0xFF ∷ 0xFF ∷ 0xA2 ∷ [])) ∷
+    (whole (0x06 ∷ []) 0 ⇒ quiet "control" (told true false true Awake 0) 1) ∷
+    (whole (0x9B ∷ 0x00 ∷ 0x00 ∷ 0x00 ∷ 0x00 ∷ []) 0 ⇒ quiet "aborted" (told false false true Awake 0) 5) ∷
+    [])
+    [])
 
 -- while busy only 05 and F0 are heard; a reset ends the busy time and drops WEL, and takes no change back
 abbrev reset : Row
@@ -184,7 +169,7 @@ deep =
 
 -- a record in which BPL, BP0 and the OTP-used mark are up
 abbrev protecting : Bool → Bool → Mode → Device
-protecting wel rste mode = withMode (withRste (withWel (fresh true true true) wel) rste) mode
+protecting wel rste mode = held true true wel rste true mode 0
 
 -- ultra-deep power-down: any frame wakes the part, and WEL and RSTE are lost; BPL and BP0 stay
 abbrev ultra : Row
@@ -219,16 +204,7 @@ abbrev busy-asleep : Row
 busy-asleep = row (told false false false Deep 1) 0xFF ((whole (0xAB ∷ []) 1 ⇒ refused 6 (told false false false Deep 1) 1) ∷ []) []
 
 abbrev another-size : Row
-another-size =
-    record {
-      settings = typical;
-      device = enabled;
-      size = 131071;
-      holds = 0x00;
-      exchanges = (whole (0x60 ∷ []) 0 ⇒ refused 1 enabled 1) ∷ [];
-      array = [];
-      register = [];
-    }
+another-size = sized 131071 (row enabled 0x00 ((whole (0x60 ∷ []) 0 ⇒ refused 1 enabled 1) ∷ []) [])
 
 unfoldable pub further : List Row
 further =

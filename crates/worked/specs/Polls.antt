@@ -4,9 +4,9 @@ use Prim.Native.Nat.{ℕ}
 use mathlib.Core.Bool.{Bool, true, false}
 use mathlib.Core.List.{List, [], _∷_}
 use Rattle.device.specs.declared.Device.{Device}
-use Rattle.device.specs.Device.{fresh, withWel, withRste, withBusy}
+use Rattle.device.specs.declared.Mode.the-variants.{Awake}
 use Rattle.worked.specs.Worked.{Sent, Row}
-use Rattle.worked.specs.Words.{idle, enabled, busy, clocked, whole, low, paced, came, quiet, begun, refused, _⇒_, piece, row}
+use Rattle.worked.specs.Words.{held, idle, enabled, busy, clocked, whole, low, paced, came, quiet, begun, refused, _⇒_, piece, row, lasting}
 
 -- a status read of five status bytes, at 8 ticks a position: 48 ticks in all
 abbrev poll : Sent
@@ -39,7 +39,7 @@ does-not-fall =
 
 -- a record in which BPL, BP0, WEL and RSTE are up
 abbrev all-up : ℕ → Device
-all-up busy = withBusy (withRste (withWel (fresh true true false) true) true) busy
+all-up busy = held true true true true false Awake busy
 
 -- nothing else moves: these four are shown as they stand, with WP low, at 8 and 16 ticks busy, at 24 not
 abbrev others-stand : Row
@@ -79,7 +79,7 @@ begins-at-the-rise =
 
 -- a record in which RSTE is up, and WEL as said
 abbrev resettable : Bool → ℕ → Device
-resettable wel busy = withBusy (withRste (withWel (fresh false false false) wel) true) busy
+resettable wel busy = held false false wel true false Awake busy
 
 -- a reset leaves the part idle and WEL 0; one that is not confirmed takes its ticks and no more
 abbrev resets : Row
@@ -104,15 +104,8 @@ eight =
 -- and 7 before 8: a duration of 0 ticks
 abbrev seven-first : Row
 seven-first =
-    record {
-      settings = record { ticks = 12 ∷ 2000 ∷ 7000 ∷ 50000 ∷ 400000 ∷ 1600000 ∷ 400 ∷ 0 ∷ [] };
-      device = enabled;
-      size = 131072;
-      holds = 0x00;
-      exchanges = (paced 1001 (whole (0x60 ∷ []) 0) ⇒ refused 7 enabled 1) ∷ [];
-      array = [];
-      register = [];
-    }
+    lasting (12 ∷ 2000 ∷ 7000 ∷ 50000 ∷ 400000 ∷ 1600000 ∷ 400 ∷ 0 ∷ [])
+    (row enabled 0x00 ((paced 1001 (whole (0x60 ∷ []) 0) ⇒ refused 7 enabled 1) ∷ []) [])
 
 unfoldable pub polls : List Row
 polls =
