@@ -198,14 +198,14 @@ module _ (low n k : ℕ) (p : low ≤ k) (q : k < low + n) where
       let w = and-eq-true-iff (steadyPiece (piece .step) (piece .from) (piece .to) low n) (steadyPieces ps low n) .0 e in
       steady-piece (piece .step) (piece .from) (piece .to) (piece .value) (painted ps k x) (painted ps low y) (w .0) (steady-painted ps x y (w .1) same)
 
--- of a memory that held this at first the operations leave what the pieces say, at each place below 2 ^ 17
+-- of a memory that held this at first the operations leave what the pieces say, at each place below 2 ^ 18
 unfoldable pub agrees : List Operation → List Piece → Content → Bool
 unfolding everywhere halved steadyFor steadyOperations steadyPiece steadyPieces apart inside one-side through painted
 agrees os ps c =
     everywhere (λ k. eqb (through os k (firstAt c k)) (painted ps k (firstAt c k)))
-    (λ low n. steadyOperations os low n && (steadyPieces ps low n && steadyPieces (c .pieces) low n)) 17 0
+    (λ low n. steadyOperations os low n && (steadyPieces ps low n && steadyPieces (c .pieces) low n)) 18 0
 
-pub painted-told : (t : Told) (ps : List Piece) → t .content .size ≤ 131072 → agrees (t .done) ps (t .content) ≡ true
+pub painted-told : (t : Told) (ps : List Piece) → t .content .size ≤ 262144 → agrees (t .done) ps (t .content) ≡ true
     → memoryOf t ≡ each (painted ps) (contentOf (t .content))
 unfolding memoryOf agrees
 painted-told t ps fits e =
@@ -213,7 +213,7 @@ painted-told t ps fits e =
     each-alike (through (t .done)) (painted ps) (contentOf (t .content))
     (λ k l.
     let m : k < t .content .size = omega (arith, length-content (t .content)) in
-    rw (getD-content (t .content) k m) (eqb-true (through (t .done) k (first k)) (painted ps k (first k)) (at-each test steady sound 17 0 k e (omega arith) (omega arith))))
+    rw (getD-content (t .content) k m) (eqb-true (through (t .done) k (first k)) (painted ps k (first k)) (at-each test steady sound 18 0 k e (omega arith) (omega arith))))
   where
     first : ℕ → ℕ
     first k = firstAt (t .content) k

@@ -24,6 +24,10 @@ use Rattle.worked.specs.Worked.{Exchange, Came, Row, Worked, EachWorked,
 use Rattle.worked.specs.Table.{table}
 use Rattle.worked.specs.Further.{further}
 use Rattle.worked.specs.Polls.{polls}
+use Rattle.worked.specs.Words.{unmoved, aborting, counting, bytes}
+use Rattle.worked.specs.Flags.{flags}
+use Rattle.worked.specs.Data.{data-rows}
+use Rattle.worked.specs.Refused.{refused-rows}
 use Rattle.worked.proofs.Halves.{everywhere, halved}
 use Rattle.worked.proofs.Told.{Told, told, memoryOf, begins-content, agrees, steadyOperations, steadyPiece, steadyPieces, steadyFor, one-side, apart, inside, painted-told}
 use Rattle.worked.proofs.Runs.{Scene, AllWhole, stateOf, cameTold, next, allTold, endTold, all-told, end-told, end-content}
@@ -43,7 +47,7 @@ wantedOf r = map (λ (e : Exchange). e .came) (r .exchanges)
 
 -- a memory has a place and no more than there are, and the operations leave what the pieces say
 fittingIn : Content → List Operation → List Piece → Bool
-fittingIn c os ps = leb 1 (c .size) && (leb (c .size) 131072 && agrees os ps c)
+fittingIn c os ps = leb 1 (c .size) && (leb (c .size) 262144 && agrees os ps c)
 
 fitting : Row → Bool
 unfolding fittingIn
@@ -65,17 +69,17 @@ row-whole r (e ∷ es) =
 
 -- what fits has a place, and at the end of a series it is as the pieces say
 module _ (t : Told) (c : Content) (ps : List Piece) (f : fittingIn c (t .done) ps ≡ true) where
-  sized : (leb 1 (c .size) ≡ true) × ((leb (c .size) 131072 && agrees (t .done) ps c) ≡ true)
+  sized : (leb 1 (c .size) ≡ true) × ((leb (c .size) 262144 && agrees (t .done) ps c) ≡ true)
   unfolding fittingIn
-  sized = and-eq-true-iff (leb 1 (c .size)) (leb (c .size) 131072 && agrees (t .done) ps c) .0 f
+  sized = and-eq-true-iff (leb 1 (c .size)) (leb (c .size) 262144 && agrees (t .done) ps c) .0 f
 
   has-a-place : 0 < c .size
   has-a-place = leb-true 1 (c .size) (sized .0)
 
   as-painted : t .content ≡ c → memoryOf t ≡ each (painted ps) (contentOf c)
   as-painted e =
-      let w = and-eq-true-iff (leb (c .size) 131072) (agrees (t .done) ps c) .0 (sized .1) in
-      painted-told t ps (rw e (leb-true (c .size) 131072 (w .0))) (rw e (w .1)) ∙ ap (λ (d : Content). each (painted ps) (contentOf d)) e
+      let w = and-eq-true-iff (leb (c .size) 262144) (agrees (t .done) ps c) .0 (sized .1) in
+      painted-told t ps (rw e (leb-true (c .size) 262144 (w .0))) (rw e (w .1)) ∙ ap (λ (d : Content). each (painted ps) (contentOf d)) e
 
 row-holds : (r : Row) → repliesOf r ≡ wantedOf r → fitting r ≡ true → Worked r
 unfolding repliesOf wantedOf fitting
@@ -107,18 +111,36 @@ each-holds (r ∷ rs) e f =
 
 -- the table: P1 to P10, the session and the limits, each reply, record and byte as the row says
 pub worked-table : EachWorked table
-unfolding table repliesOf wantedOf fittingIn fitting allFitting agrees everywhere halved steadyOperations steadyPiece steadyPieces steadyFor one-side apart inside through painted run.end run.gathered cameTold next replied numberFor
-    refusalOf anyUnfair judgedOf judged byOpcode rowOf rows lookup readAt each eachFrom over covered last
+unfolding table repliesOf wantedOf fittingIn fitting allFitting agrees everywhere halved steadyOperations steadyPiece steadyPieces steadyFor one-side apart inside through painted run.end run.gathered cameTold next
+    replied numberFor refusalOf anyUnfair judgedOf judged byOpcode rowOf rows lookup readAt each eachFrom over covered last
 worked-table = each-holds table refl refl
 
 -- and the rows beyond it
 pub worked-further : EachWorked further
-unfolding further repliesOf wantedOf fittingIn fitting allFitting agrees everywhere halved steadyOperations steadyPiece steadyPieces steadyFor one-side apart inside through painted run.end run.gathered cameTold next replied numberFor
-    refusalOf anyUnfair judgedOf judged byOpcode rowOf rows lookup readAt each eachFrom over covered last
+unfolding further repliesOf wantedOf fittingIn fitting allFitting agrees everywhere halved steadyOperations steadyPiece steadyPieces steadyFor one-side apart inside through painted run.end run.gathered cameTold next
+    replied numberFor refusalOf anyUnfair judgedOf judged byOpcode rowOf rows lookup readAt each eachFrom over covered last
 worked-further = each-holds further refl refl
 
 -- and those of frames that take time
 pub worked-polls : EachWorked polls
-unfolding polls repliesOf wantedOf fittingIn fitting allFitting agrees everywhere halved steadyOperations steadyPiece steadyPieces steadyFor one-side apart inside through painted run.end run.gathered cameTold next replied numberFor
-    refusalOf anyUnfair judgedOf judged byOpcode rowOf rows lookup readAt each eachFrom over covered last
+unfolding polls repliesOf wantedOf fittingIn fitting allFitting agrees everywhere halved steadyOperations steadyPiece steadyPieces steadyFor one-side apart inside through painted run.end run.gathered cameTold next
+    replied numberFor refusalOf anyUnfair judgedOf judged byOpcode rowOf rows lookup readAt each eachFrom over covered last
 worked-polls = each-holds polls refl refl
+
+-- and those of the flags
+pub worked-flags : EachWorked flags
+unfolding flags unmoved repliesOf wantedOf fittingIn fitting allFitting agrees everywhere halved steadyOperations steadyPiece steadyPieces steadyFor one-side apart inside through painted run.end run.gathered cameTold next
+    replied numberFor refusalOf anyUnfair judgedOf judged byOpcode rowOf rows lookup readAt each eachFrom over covered last
+worked-flags = each-holds flags refl refl
+
+-- and those of array and register
+pub worked-data : EachWorked data-rows
+unfolding data-rows unmoved aborting counting bytes repliesOf wantedOf fittingIn fitting allFitting agrees everywhere halved steadyOperations steadyPiece steadyPieces steadyFor one-side apart inside through painted run.end run.gathered cameTold next
+    replied numberFor refusalOf anyUnfair judgedOf judged byOpcode rowOf rows lookup readAt each eachFrom over covered last
+worked-data = each-holds data-rows refl refl
+
+-- and those of the refusals
+pub worked-refused : EachWorked refused-rows
+unfolding refused-rows repliesOf wantedOf fittingIn fitting allFitting agrees everywhere halved steadyOperations steadyPiece steadyPieces steadyFor one-side apart inside through painted run.end run.gathered cameTold next
+    replied numberFor refusalOf anyUnfair judgedOf judged byOpcode rowOf rows lookup readAt each eachFrom over covered last
+worked-refused = each-holds refused-rows refl refl

@@ -3,4 +3,7 @@ pub mod Words
 pub mod Table
 pub mod Further
 pub mod Polls
+pub mod Flags
+pub mod Data
+pub mod Refused
 pub mod Example

@@ -69,6 +69,10 @@ replies number outcome first driven covered d output =
 abbrev pub came : String → ℕ → ℕ → Device → List ℕ → Came
 came outcome first driven d output = replies 0 outcome first driven nowhere d (output ++ (canary ∷ []))
 
+-- the same of a buffer that is no longer than the frame
+abbrev pub filled : String → ℕ → ℕ → Device → List ℕ → Came
+filled outcome first driven d output = replies 0 outcome first driven nowhere d output
+
 -- nothing driven: n bytes of FFh
 abbrev pub quiet : String → Device → ℕ → Came
 quiet outcome d n = came outcome 0 0 d (replicate n 0xFF)
@@ -92,6 +96,14 @@ _⇒_ sent came = record { sent = sent; came = came }
 unfoldable pub unmoved : String → Device → List (List ℕ) → List Exchange
 unmoved outcome d [] = []
 unmoved outcome d (bytes ∷ frames) = (whole bytes 0 ⇒ quiet outcome d (length bytes)) ∷ unmoved outcome d frames
+
+-- each of some frames, of whose last byte so many bits are not clocked, is aborted and drops WEL, which 06 then sets again
+unfoldable pub aborting : ℕ → Device → Device → List (List ℕ) → List Exchange
+aborting cut enabled dropped [] = []
+aborting cut enabled dropped (bytes ∷ frames) =
+    (clocked (8 * length bytes - cut) bytes 0 ⇒ quiet "aborted" dropped (length bytes)) ∷
+    (whole (0x06 ∷ []) 0 ⇒ quiet "control" enabled 1) ∷
+    aborting cut enabled dropped frames
 
 -- a range that holds one value; one whose bytes count from a value on; some bytes from a place on
 abbrev pub piece : ℕ → ℕ → ℕ → Piece

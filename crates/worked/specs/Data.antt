@@ -1,0 +1,324 @@
+-- Rows of array and register, worked by hand: data that differs at each place, both sizes of the array, high addresses. Assumes nothing.
+use Prim.Native.Nat.{ℕ}
+use mathlib.Core.Bool.{true, false}
+use mathlib.Core.List.{List, [], _∷_, _++_}
+use lib.ListN.{length, replicate}
+use Rattle.device.specs.declared.Device.{Device}
+use Rattle.device.specs.declared.Mode.the-variants.{Awake}
+use Rattle.worked.specs.Worked.{Exchange, Piece, Row}
+use Rattle.worked.specs.Words.{held, stands, idle, enabled, busy, counting, clocked, whole, low, pulled, paced, came, quiet, begun, _⇒_, unmoved, aborting, piece, rising, bytes, row, sized, holding, registered}
+
+-- each command that needs WEL, complete; the same with a byte more
+abbrev latched : List (List ℕ)
+latched =
+    (0x02 ∷ 0x00 ∷ 0x00 ∷ 0x10 ∷ 0x5A ∷ []) ∷
+    (0x81 ∷ 0x00 ∷ 0x00 ∷ 0x10 ∷ []) ∷
+    (0x20 ∷ 0x00 ∷ 0x00 ∷ 0x10 ∷ []) ∷
+    (0x52 ∷ 0x00 ∷ 0x00 ∷ 0x10 ∷ []) ∷
+    (0xD8 ∷ 0x00 ∷ 0x00 ∷ 0x10 ∷ []) ∷
+    (0x60 ∷ []) ∷
+    (0xC7 ∷ []) ∷
+    (0x62 ∷ []) ∷
+    (0x9B ∷ 0x00 ∷ 0x00 ∷ 0x02 ∷ 0x5A ∷ []) ∷
+    (0x01 ∷ 0x84 ∷ []) ∷
+    (0x31 ∷ 0x10 ∷ []) ∷
+    []
+
+abbrev longer : List (List ℕ)
+longer =
+    (0x02 ∷ 0x00 ∷ 0x00 ∷ 0x10 ∷ 0x5A ∷ 0x5B ∷ []) ∷
+    (0x81 ∷ 0x00 ∷ 0x00 ∷ 0x10 ∷ 0x00 ∷ []) ∷
+    (0x20 ∷ 0x00 ∷ 0x00 ∷ 0x10 ∷ 0x00 ∷ []) ∷
+    (0x52 ∷ 0x00 ∷ 0x00 ∷ 0x10 ∷ 0x00 ∷ []) ∷
+    (0xD8 ∷ 0x00 ∷ 0x00 ∷ 0x10 ∷ 0x00 ∷ []) ∷
+    (0x60 ∷ 0x00 ∷ []) ∷
+    (0xC7 ∷ 0x00 ∷ []) ∷
+    (0x62 ∷ 0x00 ∷ []) ∷
+    (0x9B ∷ 0x00 ∷ 0x00 ∷ 0x02 ∷ 0x5A ∷ 0x5B ∷ []) ∷
+    (0x01 ∷ 0x84 ∷ 0x00 ∷ []) ∷
+    (0x31 ∷ 0x10 ∷ 0x00 ∷ []) ∷
+    []
+
+-- of those the programs and erases of the array
+abbrev on-array : List (List ℕ)
+on-array =
+    (0x02 ∷ 0x00 ∷ 0x00 ∷ 0x10 ∷ 0x5A ∷ []) ∷
+    (0x81 ∷ 0x00 ∷ 0x00 ∷ 0x10 ∷ []) ∷
+    (0x20 ∷ 0x00 ∷ 0x00 ∷ 0x10 ∷ []) ∷
+    (0x52 ∷ 0x00 ∷ 0x00 ∷ 0x10 ∷ []) ∷
+    (0xD8 ∷ 0x00 ∷ 0x00 ∷ 0x10 ∷ []) ∷
+    (0x60 ∷ []) ∷
+    (0xC7 ∷ []) ∷
+    (0x62 ∷ []) ∷
+    []
+
+-- with WEL 0 none is carried out; with WEL 1, busy, none is and WEL stays; nor is any other command then but 05 and F0
+abbrev without-wel : Row
+without-wel = row (held false false false true false Awake 0) 0x00 (unmoved "nothing" (held false false false true false Awake 0) latched) []
+
+abbrev while-busy : Row
+while-busy =
+    row (held false false true true false Awake 5) 0x00
+    (unmoved "nothing" (held false false true true false Awake 5) latched ++
+    unmoved "nothing" (held false false true true false Awake 5)
+    ((0x03 ∷ 0x00 ∷ 0x00 ∷ 0x00 ∷ 0x00 ∷ []) ∷
+    (0x0B ∷ 0x00 ∷ 0x00 ∷ 0x00 ∷ 0x00 ∷ 0x00 ∷ []) ∷
+    (0x77 ∷ 0x00 ∷ 0x00 ∷ 0x00 ∷ 0x00 ∷ 0x00 ∷ 0x00 ∷ []) ∷
+    (0x9F ∷ 0x00 ∷ []) ∷
+    (0x15 ∷ 0x00 ∷ []) ∷
+    (0x06 ∷ []) ∷
+    (0x04 ∷ []) ∷
+    (0xB9 ∷ []) ∷
+    (0x79 ∷ []) ∷
+    (0xAB ∷ []) ∷
+    (0x00 ∷ []) ∷
+    []) ++
+    ((low (0x05 ∷ 0x00 ∷ 0x00 ∷ []) 4 ⇒ came "read" 1 2 (held false false true true false Awake 1) (0xFF ∷ 0x03 ∷ 0x11 ∷ [])) ∷ []))
+    []
+
+-- off a boundary each is aborted, though it is complete without the byte of which four bits were clocked, or two, or seven
+abbrev cut-by-four : Row
+cut-by-four = row (held true false true true false Awake 0) 0x00 (aborting 4 (held true false true true false Awake 0) (held true false false true false Awake 0) longer) []
+
+abbrev cut-by-six : Row
+cut-by-six = row (held false false true false true Awake 0) 0x00 (aborting 6 (held false false true false true Awake 0) (held false false false false true Awake 0) longer) []
+
+abbrev cut-by-one : Row
+cut-by-one = row enabled 0x00 (aborting 1 enabled idle longer) []
+
+-- protected by BP0: BPL does not bear on it
+abbrev guarded-array : Row
+guarded-array = row (stands false true true 0) 0x00 (aborting 0 (stands false true true 0) (stands false true false 0) on-array) []
+
+-- a part with BPL 1 and BP0 0, the OTP-used mark and RSTE 1; WEL and busy as said
+abbrev worn : ℕ → Device
+worn ticks = held true false false true true Awake ticks
+
+abbrev worn-enabled : Device
+worn-enabled = held true false true true true Awake 0
+
+-- Programs. 0Fh, 33h, 55h and F0h on 3Ch leave 0Ch, 30h, 14h and 30h; the page of 0180FEh ends after two bytes
+abbrev programs-four : Row
+programs-four =
+    row worn-enabled 0x3C
+    ((low (0x02 ∷ 0xFD ∷ 0x80 ∷ 0xFE ∷ 0x0F ∷ 0x33 ∷ 0x55 ∷ 0xF0 ∷ []) 0 ⇒ begun 0x18000 0x18100 (worn 2000) 8) ∷ [])
+    (bytes 0x180FE (0x0C ∷ 0x30 ∷ []) ++ bytes 0x18000 (0x14 ∷ 0x30 ∷ []))
+
+abbrev programs-four-small : Row
+programs-four-small =
+    sized 65536
+    (row worn-enabled 0x3C
+    ((whole (0x02 ∷ 0xFD ∷ 0x80 ∷ 0xFE ∷ 0x0F ∷ 0x33 ∷ 0x55 ∷ 0xF0 ∷ []) 0 ⇒ begun 0x8000 0x8100 (worn 2000) 8) ∷ [])
+    (bytes 0x80FE (0x0C ∷ 0x30 ∷ []) ++ bytes 0x8000 (0x14 ∷ 0x30 ∷ [])))
+
+-- two data bytes take the longer duration, at a page's last offset the second goes to its first
+abbrev programs-two : Row
+programs-two =
+    row enabled 0xFF
+    ((low (0x02 ∷ 0x00 ∷ 0x12 ∷ 0xFF ∷ 0xA1 ∷ 0xA2 ∷ []) 0 ⇒ begun 0x1200 0x1300 (busy 2000) 6) ∷ [])
+    (piece 0x12FF 0x1300 0xA1 ∷ piece 0x1200 0x1201 0xA2 ∷ [])
+
+-- 255 data bytes from offset 10h on leave the place before it
+abbrev programs-255 : Row
+programs-255 =
+    row enabled 0xFF
+    ((low (0x02 ∷ 0x00 ∷ 0x05 ∷ 0x10 ∷ counting 0x21 255) 0 ⇒ begun 0x500 0x600 (busy 2000) 259) ∷ [])
+    (rising 0x510 0x600 0x21 ∷ rising 0x500 0x50F 0x11 ∷ [])
+
+-- 256 from offset 7 on fill the page
+abbrev programs-256 : Row
+programs-256 =
+    row enabled 0xFF
+    ((whole (0x02 ∷ 0x00 ∷ 0x05 ∷ 0x07 ∷ counting 0x09 256) 0 ⇒ begun 0x500 0x600 (busy 2000) 260) ∷ [])
+    (rising 0x507 0x600 0x09 ∷ rising 0x500 0x507 0x02 ∷ [])
+
+-- of 257 from offset 80h on the first, 00h, is replaced by the last, 02h
+abbrev programs-257 : Row
+programs-257 =
+    row enabled 0xFF
+    ((low (0x02 ∷ 0x01 ∷ 0xFF ∷ 0x80 ∷ 0x00 ∷ counting 0x03 256) 0 ⇒ begun 0x1FF00 0x20000 (busy 2000) 261) ∷ [])
+    (rising 0x1FF81 0x20000 0x03 ∷ rising 0x1FF00 0x1FF81 0x82 ∷ [])
+
+-- of 300 from offset 10h on the first 44 do not count: the 45th aims at 3Ch
+abbrev programs-300 : Row
+programs-300 =
+    sized 65536
+    (row enabled 0xFF
+    ((whole (0x02 ∷ 0x01 ∷ 0x05 ∷ 0x10 ∷ (replicate 44 0x00 ++ counting 0x05 256)) 0 ⇒ begun 0x500 0x600 (busy 2000) 304) ∷ [])
+    (rising 0x53C 0x600 0x05 ∷ rising 0x500 0x53C 0xC9 ∷ []))
+
+-- Erases, with BPL 1 and WP low: the region around the address, on either size
+abbrev erasing : ℕ → List ℕ → ℕ → ℕ → ℕ → Row
+erasing size frame ticks from to =
+    sized size (row worn-enabled 0x00 ((low frame 0 ⇒ begun from to (worn ticks) (length frame)) ∷ []) (piece from to 0xFF ∷ []))
+
+abbrev erases-large : List Row
+erases-large =
+    erasing 131072 (0x81 ∷ 0x01 ∷ 0xFF ∷ 0x80 ∷ []) 7000 0x1FF00 0x20000 ∷
+    erasing 131072 (0x20 ∷ 0x01 ∷ 0x0F ∷ 0xFF ∷ 0xAA ∷ []) 50000 0x10000 0x11000 ∷
+    erasing 131072 (0x52 ∷ 0x01 ∷ 0x80 ∷ 0x00 ∷ []) 400000 0x18000 0x20000 ∷
+    erasing 131072 (0xD8 ∷ 0x02 ∷ 0x7F ∷ 0xFF ∷ []) 400000 0x0 0x8000 ∷
+    erasing 131072 (0x62 ∷ 0x12 ∷ []) 1600000 0x0 0x20000 ∷
+    []
+
+abbrev erases-small : List Row
+erases-small =
+    erasing 65536 (0x81 ∷ 0x01 ∷ 0xFF ∷ 0x80 ∷ []) 7000 0xFF00 0x10000 ∷
+    erasing 65536 (0x20 ∷ 0xFF ∷ 0xFF ∷ 0xFF ∷ []) 50000 0xF000 0x10000 ∷
+    erasing 65536 (0x52 ∷ 0x01 ∷ 0x00 ∷ 0x00 ∷ []) 400000 0x0 0x8000 ∷
+    erasing 65536 (0xD8 ∷ 0x01 ∷ 0x80 ∷ 0x00 ∷ 0x00 ∷ []) 400000 0x8000 0x10000 ∷
+    erasing 65536 (0x60 ∷ []) 1600000 0x0 0x10000 ∷
+    erasing 65536 (0xC7 ∷ 0x01 ∷ 0x80 ∷ 0x00 ∷ []) 1600000 0x0 0x10000 ∷
+    []
+
+-- Reads, of an array that holds 11h but here: at its beginning, around 010000h, at its end, and at two places that one address bit tells apart
+abbrev landmarks : List Piece
+landmarks =
+    rising 0x0 0x10 0x40 ∷
+    rising 0xFFF0 0x10000 0x80 ∷
+    rising 0x10000 0x10010 0xA0 ∷
+    rising 0x1FFF0 0x20000 0xC0 ∷
+    piece 0x2345 0x2346 0x6C ∷
+    piece 0x12345 0x12346 0x5B ∷
+    []
+
+-- opcode and address, or the bytes sent while data comes back, are answered with FFh
+abbrev header : List ℕ
+header = 0xFF ∷ 0xFF ∷ 0xFF ∷ 0xFF ∷ []
+
+abbrev reads-large : Row
+reads-large =
+    holding landmarks
+    (row (worn 0) 0x11
+    ((low (0x03 ∷ 0x00 ∷ 0xFF ∷ 0xFE ∷ 0x00 ∷ 0x00 ∷ 0x00 ∷ 0x00 ∷ []) 0 ⇒ came "read" 4 4 (worn 0) (header ++ (0x8E ∷ 0x8F ∷ 0xA0 ∷ 0xA1 ∷ []))) ∷
+    (whole (0x03 ∷ 0x01 ∷ 0xFF ∷ 0xFE ∷ 0x00 ∷ 0x00 ∷ 0x00 ∷ 0x00 ∷ []) 0 ⇒ came "read" 4 4 (worn 0) (header ++ (0xCE ∷ 0xCF ∷ 0x40 ∷ 0x41 ∷ []))) ∷
+    (low (0x03 ∷ 0x01 ∷ 0x23 ∷ 0x45 ∷ 0x00 ∷ []) 0 ⇒ came "read" 4 1 (worn 0) (header ++ (0x5B ∷ []))) ∷
+    (whole (0x03 ∷ 0x00 ∷ 0x23 ∷ 0x45 ∷ 0x00 ∷ []) 0 ⇒ came "read" 4 1 (worn 0) (header ++ (0x6C ∷ []))) ∷
+    (low (0x03 ∷ 0x02 ∷ 0x23 ∷ 0x45 ∷ 0x00 ∷ []) 0 ⇒ came "read" 4 1 (worn 0) (header ++ (0x6C ∷ []))) ∷
+    (whole (0x03 ∷ 0xFF ∷ 0x23 ∷ 0x45 ∷ 0x00 ∷ []) 0 ⇒ came "read" 4 1 (worn 0) (header ++ (0x5B ∷ []))) ∷
+    (low (0x0B ∷ 0x01 ∷ 0xFF ∷ 0xFE ∷ 0x12 ∷ 0x00 ∷ 0x00 ∷ 0x00 ∷ []) 0 ⇒ came "read" 5 3 (worn 0) (header ++ (0xFF ∷ 0xCE ∷ 0xCF ∷ 0x40 ∷ []))) ∷
+    (whole (0x03 ∷ 0x00 ∷ 0x00 ∷ 0x00 ∷ replicate 20 0x00) 0 ⇒ came "read" 4 20 (worn 0) (header ++ counting 0x40 16 ++ replicate 4 0x11)) ∷
+    (clocked 44 (0x03 ∷ 0x00 ∷ 0x00 ∷ 0x00 ∷ 0x00 ∷ 0x00 ∷ []) 0 ⇒ came "read" 4 2 (worn 0) (header ++ (0x40 ∷ 0x4F ∷ []))) ∷
+    [])
+    [])
+
+abbrev reads-small : Row
+reads-small =
+    sized 65536
+    (holding (rising 0x0 0x10 0x40 ∷ rising 0xFFF0 0x10000 0x80 ∷ piece 0x2345 0x2346 0x6C ∷ [])
+    (row idle 0x11
+    ((whole (0x03 ∷ 0x00 ∷ 0xFF ∷ 0xFE ∷ 0x00 ∷ 0x00 ∷ 0x00 ∷ 0x00 ∷ []) 0 ⇒ came "read" 4 4 idle (header ++ (0x8E ∷ 0x8F ∷ 0x40 ∷ 0x41 ∷ []))) ∷
+    (low (0x03 ∷ 0x01 ∷ 0x00 ∷ 0x00 ∷ 0x00 ∷ 0x00 ∷ []) 0 ⇒ came "read" 4 2 idle (header ++ (0x40 ∷ 0x41 ∷ []))) ∷
+    (whole (0x03 ∷ 0x01 ∷ 0x23 ∷ 0x45 ∷ 0x00 ∷ []) 0 ⇒ came "read" 4 1 idle (header ++ (0x6C ∷ []))) ∷
+    (low (0x0B ∷ 0xFF ∷ 0xFF ∷ 0xFF ∷ 0x00 ∷ 0x00 ∷ 0x00 ∷ []) 0 ⇒ came "read" 5 2 idle (header ++ (0xFF ∷ 0x8F ∷ 0x40 ∷ []))) ∷
+    [])
+    []))
+
+-- a read that is cut short drives the positions that it has
+abbrev short-reads : Row
+short-reads =
+    row (stands true false true 0) 0x11
+    (unmoved "read" (stands true false true 0)
+    ((0x03 ∷ []) ∷
+    (0x03 ∷ 0x00 ∷ []) ∷
+    (0x0B ∷ 0x00 ∷ 0x00 ∷ 0x00 ∷ 0x00 ∷ []) ∷
+    (0x77 ∷ 0x00 ∷ 0x00 ∷ 0x00 ∷ 0x00 ∷ 0x00 ∷ []) ∷
+    (0x05 ∷ []) ∷
+    (0x9F ∷ []) ∷
+    (0x15 ∷ []) ∷
+    []) ++
+    ((low (0x9F ∷ 0x00 ∷ []) 0 ⇒ came "read" 1 1 (stands true false true 0) (0xFF ∷ 0x1F ∷ [])) ∷
+    (whole (0x9F ∷ 0x00 ∷ 0x00 ∷ []) 0 ⇒ came "read" 1 2 (stands true false true 0) (0xFF ∷ 0x1F ∷ 0x42 ∷ [])) ∷
+    (low (0x9F ∷ 0x00 ∷ 0x00 ∷ 0x00 ∷ []) 0 ⇒ came "read" 1 3 (stands true false true 0) (0xFF ∷ 0x1F ∷ 0x42 ∷ 0x00 ∷ [])) ∷
+    (low (0x9F ∷ 0x00 ∷ 0x00 ∷ 0x00 ∷ 0x00 ∷ []) 0 ⇒ came "read" 1 4 (stands true false true 0) (0xFF ∷ 0x1F ∷ 0x42 ∷ 0x00 ∷ 0x00 ∷ [])) ∷
+    (whole (0x15 ∷ 0x00 ∷ []) 0 ⇒ came "read" 1 1 (stands true false true 0) (0xFF ∷ 0x1F ∷ [])) ∷
+    (low (0x15 ∷ 0x00 ∷ 0x00 ∷ []) 0 ⇒ came "read" 1 2 (stands true false true 0) (0xFF ∷ 0x1F ∷ 0x65 ∷ [])) ∷
+    []))
+    []
+
+-- a status byte of 00h of which one bit is clocked, then two, up to seven: the others read 1
+abbrev clip : ℕ → ℕ → Exchange
+clip bits shown = pulled (clocked bits (0x05 ∷ 0x00 ∷ []) 0) ⇒ came "read" 1 1 idle (0xFF ∷ shown ∷ [])
+
+abbrev clipped : Row
+clipped = row idle 0xFF (clip 9 0x7F ∷ clip 10 0x3F ∷ clip 11 0x1F ∷ clip 12 0x0F ∷ clip 13 0x07 ∷ clip 14 0x03 ∷ clip 15 0x01 ∷ clip 16 0x00 ∷ []) []
+
+-- 20 status bytes at 3 ticks a position, 50 ticks left: the 16th begins after 48, the 17th after 51
+abbrev alternating : List ℕ
+alternating = 0x11 ∷ 0x01 ∷ 0x11 ∷ 0x01 ∷ []
+
+abbrev long-poll : Row
+long-poll =
+    row (busy 50) 0xFF
+    ((paced 3 (whole (0x05 ∷ replicate 20 0x00) 0) ⇒
+    came "read" 1 20 idle (0xFF ∷ (alternating ++ alternating ++ alternating ++ alternating ++ (0x10 ∷ 0x00 ∷ 0x10 ∷ 0x00 ∷ [])))) ∷ [])
+    []
+
+-- The register: the user's 64 bytes hold 3Ch, the factory's 80h and on. 0Fh, 33h and 55h from 3Eh on, and the array stays.
+abbrev made : List Piece
+made = piece 0 64 0x3C ∷ rising 64 128 0x80 ∷ []
+
+abbrev otp-anded : Row
+otp-anded =
+    registered 128 made (bytes 62 (0x0C ∷ 0x30 ∷ []) ++ bytes 0 (0x14 ∷ []))
+    (row (held true true true true false Awake 0) 0x3C
+    ((low (0x9B ∷ 0x12 ∷ 0x34 ∷ 0xFE ∷ 0x0F ∷ 0x33 ∷ 0x55 ∷ []) 0 ⇒ quiet "begun" (held true true false true true Awake 400) 7) ∷
+    (low (0x77 ∷ 0x00 ∷ 0x00 ∷ 0x3E ∷ 0x00 ∷ 0x00 ∷ 0x00 ∷ 0x00 ∷ 0x00 ∷ 0x00 ∷ []) 400 ⇒
+    came "read" 6 4 (held true true false true true Awake 0) (header ++ (0xFF ∷ 0xFF ∷ 0x0C ∷ 0x30 ∷ 0x80 ∷ 0x81 ∷ []))) ∷
+    (whole (0x77 ∷ 0xFF ∷ 0xFF ∷ 0xFE ∷ 0x00 ∷ 0x00 ∷ 0x00 ∷ 0x00 ∷ 0x00 ∷ 0x00 ∷ []) 0 ⇒
+    came "read" 6 4 (held true true false true true Awake 0) (header ++ (0xFF ∷ 0xFF ∷ 0xBE ∷ 0xBF ∷ 0x14 ∷ 0x3C ∷ []))) ∷
+    [])
+    [])
+
+-- one data byte takes as long; of the address the low six bits count
+abbrev otp-one : Row
+otp-one =
+    registered 128 made (piece 0 1 0x24 ∷ [])
+    (row enabled 0xFF
+    ((whole (0x9B ∷ 0xFF ∷ 0xFF ∷ 0xC0 ∷ 0x66 ∷ []) 0 ⇒ quiet "begun" (held false false false false true Awake 400) 5) ∷
+    (clocked 60 (0x77 ∷ 0x00 ∷ 0x00 ∷ 0x40 ∷ 0x00 ∷ 0x00 ∷ 0x00 ∷ 0x00 ∷ []) 400 ⇒
+    came "read" 6 2 (held false false false false true Awake 0) (header ++ (0xFF ∷ 0xFF ∷ 0x80 ∷ 0x8F ∷ []))) ∷
+    [])
+    [])
+
+-- of 70 data bytes from offset 10 on the first six do not count: the seventh aims at 16
+abbrev otp-seventy : Row
+otp-seventy =
+    registered 128 (rising 64 128 0x80 ∷ []) (rising 16 64 0x01 ∷ rising 0 16 0x31 ∷ [])
+    (row enabled 0xFF
+    ((low (0x9B ∷ 0x00 ∷ 0x00 ∷ 0x0A ∷ (replicate 6 0x00 ++ counting 0x01 64)) 0 ⇒ quiet "begun" (held false false false false true Awake 400) 74) ∷ [])
+    [])
+
+-- with the mark 1 it is aborted, and so is one that is short; then the mark stays as it was
+abbrev otp-used : Row
+otp-used =
+    registered 128 made []
+    (row (held false true true true true Awake 0) 0xFF
+    ((whole (0x9B ∷ 0x00 ∷ 0x00 ∷ 0x00 ∷ 0x00 ∷ []) 0 ⇒ quiet "aborted" (held false true false true true Awake 0) 5) ∷ [])
+    [])
+
+unfoldable pub data-rows : List Row
+data-rows =
+    without-wel ∷
+    while-busy ∷
+    cut-by-four ∷
+    cut-by-six ∷
+    cut-by-one ∷
+    guarded-array ∷
+    programs-four ∷
+    programs-four-small ∷
+    programs-two ∷
+    programs-255 ∷
+    programs-256 ∷
+    programs-257 ∷
+    programs-300 ∷
+    reads-large ∷
+    reads-small ∷
+    short-reads ∷
+    clipped ∷
+    long-poll ∷
+    otp-anded ∷
+    otp-one ∷
+    otp-seventy ∷
+    otp-used ∷
+    (erases-large ++ erases-small)

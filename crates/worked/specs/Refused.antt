@@ -1,0 +1,124 @@
+-- Rows of the refusals, worked by hand: each number at its limits, and before the next. The frame would erase the chip, and every byte
+-- stays. Assumes nothing.
+use Prim.Native.Nat.{ℕ}
+use mathlib.Core.Bool.{true, false}
+use mathlib.Core.List.{List, [], _∷_}
+use lib.ListN.{replicate}
+use Rattle.device.specs.declared.Device.{Device}
+use Rattle.device.specs.declared.Mode.{Mode}
+use Rattle.device.specs.declared.Mode.the-variants.{Awake, Deep, UltraDeep}
+use Rattle.worked.specs.Worked.{Sent, Row}
+use Rattle.worked.specs.Words.{held, enabled, busy, clocked, whole, low, paced, given, came, filled, begun, spared, refused, _⇒_, piece, row, sized, lasting, registered}
+
+-- a chip erase, with WEL 1; so many bytes of it
+abbrev erase : Sent
+erase = whole (0x60 ∷ []) 5
+
+abbrev many : ℕ → List ℕ
+many n = 0x60 ∷ replicate n 0x00
+
+-- 1: a size that there is not
+abbrev array-of : ℕ → Row
+array-of size = sized size (row enabled 0x00 ((erase ⇒ refused 1 enabled 1) ∷ []) [])
+
+-- 1 before 2; 2: a register one byte shorter or longer
+abbrev array-first : Row
+array-first = registered 127 [] [] (array-of 65535)
+
+abbrev register-of : ℕ → Row
+register-of size = registered size [] [] (row enabled 0x00 ((erase ⇒ refused 2 enabled 1) ∷ []) [])
+
+-- 2 before 3, 3 before 4
+abbrev register-first : Row
+register-first = registered 129 [] [] (row enabled 0x00 ((whole (many 8192) 5 ⇒ refused 2 enabled 8193) ∷ []) [])
+
+abbrev input-first : Row
+input-first = row enabled 0x00 ((clocked 8 (many 8192) 5 ⇒ refused 3 enabled 8193) ∷ []) []
+
+-- 4: bits that need a byte more, or a byte less; 17 bits need three bytes
+abbrev bits : Row
+bits =
+    row enabled 0x00
+    ((clocked 16 (0x60 ∷ []) 5 ⇒ refused 4 enabled 1) ∷
+    (clocked 8 [] 5 ⇒ refused 4 enabled 0) ∷
+    (clocked 17 (0x60 ∷ 0x00 ∷ []) 5 ⇒ refused 4 enabled 2) ∷
+    (clocked 16 (0x60 ∷ 0x00 ∷ 0x00 ∷ []) 5 ⇒ refused 4 enabled 3) ∷
+    (clocked 18446744073709551615 (0x60 ∷ []) 5 ⇒ refused 4 enabled 1) ∷
+    (clocked 17 (0x05 ∷ 0x00 ∷ 0x00 ∷ []) 5 ⇒ came "read" 1 2 enabled (0xFF ∷ 0x12 ∷ 0x7F ∷ [])) ∷
+    [])
+    []
+
+-- 4 before 5; 5: a byte of output too few, and exactly enough; 5 before 6
+abbrev bits-first : Row
+bits-first = row enabled 0x00 ((given 0 (clocked 9 (0x60 ∷ []) 5) ⇒ spared 4 enabled 0) ∷ []) []
+
+abbrev room : Row
+room =
+    row enabled 0x00
+    ((given 0 erase ⇒ spared 5 enabled 0) ∷
+    (given 1 (low (0x60 ∷ 0x00 ∷ []) 5) ⇒ spared 5 enabled 1) ∷
+    (given 2 (low (0x05 ∷ 0x00 ∷ []) 5) ⇒ filled "read" 1 1 enabled (0xFF ∷ 0x02 ∷ [])) ∷
+    [])
+    []
+
+abbrev room-first : Row
+room-first = row (busy 60000001) 0x00 ((given 0 erase ⇒ spared 5 (busy 60000001) 0) ∷ []) []
+
+-- 6: busy ticks up to 60,000,000 are accepted, in a part that is awake; 6 before 7
+abbrev most-busy : Row
+most-busy = row (busy 60000000) 0x00 ((whole (0x05 ∷ 0x00 ∷ []) 1 ⇒ came "read" 1 1 (busy 59999999) (0xFF ∷ 0x11 ∷ [])) ∷ []) []
+
+abbrev asleep-and : Mode → Row
+asleep-and mode =
+    row (held true false true false false mode 1) 0x00 ((whole (0xAB ∷ []) 1 ⇒ refused 6 (held true false true false false mode 1) 1) ∷ []) []
+
+abbrev record-first : Row
+record-first =
+    lasting (12 ∷ 2000 ∷ 7000 ∷ 50000 ∷ 400000 ∷ 1600000 ∷ 400 ∷ 60000001 ∷ [])
+    (row (busy 60000001) 0x00 ((erase ⇒ refused 6 (busy 60000001) 1) ∷ []) [])
+
+-- 7: a duration of 0, or of one tick too many, at each of the eight places
+abbrev unfair : List ℕ → Row
+unfair ticks = lasting ticks (row enabled 0x00 ((erase ⇒ refused 7 enabled 1) ∷ []) [])
+
+-- one tick is enough at each
+abbrev shortest : Row
+shortest =
+    lasting (1 ∷ 1 ∷ 1 ∷ 1 ∷ 1 ∷ 1 ∷ 1 ∷ 1 ∷ [])
+    (row enabled 0x00 ((erase ⇒ begun 0 131072 (busy 1) 1) ∷ []) (piece 0 131072 0xFF ∷ []))
+
+unfoldable pub refused-rows : List Row
+refused-rows =
+    array-of 131073 ∷
+    array-of 65535 ∷
+    array-of 65537 ∷
+    array-first ∷
+    register-of 127 ∷
+    register-of 129 ∷
+    register-first ∷
+    input-first ∷
+    bits ∷
+    bits-first ∷
+    room ∷
+    room-first ∷
+    most-busy ∷
+    asleep-and Deep ∷
+    asleep-and UltraDeep ∷
+    record-first ∷
+    unfair (0 ∷ 2000 ∷ 7000 ∷ 50000 ∷ 400000 ∷ 1600000 ∷ 400 ∷ 20000 ∷ []) ∷
+    unfair (12 ∷ 0 ∷ 7000 ∷ 50000 ∷ 400000 ∷ 1600000 ∷ 400 ∷ 20000 ∷ []) ∷
+    unfair (12 ∷ 2000 ∷ 0 ∷ 50000 ∷ 400000 ∷ 1600000 ∷ 400 ∷ 20000 ∷ []) ∷
+    unfair (12 ∷ 2000 ∷ 7000 ∷ 0 ∷ 400000 ∷ 1600000 ∷ 400 ∷ 20000 ∷ []) ∷
+    unfair (12 ∷ 2000 ∷ 7000 ∷ 50000 ∷ 0 ∷ 1600000 ∷ 400 ∷ 20000 ∷ []) ∷
+    unfair (12 ∷ 2000 ∷ 7000 ∷ 50000 ∷ 400000 ∷ 0 ∷ 400 ∷ 20000 ∷ []) ∷
+    unfair (12 ∷ 2000 ∷ 7000 ∷ 50000 ∷ 400000 ∷ 1600000 ∷ 0 ∷ 20000 ∷ []) ∷
+    unfair (12 ∷ 2000 ∷ 7000 ∷ 50000 ∷ 400000 ∷ 1600000 ∷ 400 ∷ 0 ∷ []) ∷
+    unfair (60000001 ∷ 2000 ∷ 7000 ∷ 50000 ∷ 400000 ∷ 1600000 ∷ 400 ∷ 20000 ∷ []) ∷
+    unfair (12 ∷ 60000001 ∷ 7000 ∷ 50000 ∷ 400000 ∷ 1600000 ∷ 400 ∷ 20000 ∷ []) ∷
+    unfair (12 ∷ 2000 ∷ 60000001 ∷ 50000 ∷ 400000 ∷ 1600000 ∷ 400 ∷ 20000 ∷ []) ∷
+    unfair (12 ∷ 2000 ∷ 7000 ∷ 60000001 ∷ 400000 ∷ 1600000 ∷ 400 ∷ 20000 ∷ []) ∷
+    unfair (12 ∷ 2000 ∷ 7000 ∷ 50000 ∷ 60000001 ∷ 1600000 ∷ 400 ∷ 20000 ∷ []) ∷
+    unfair (12 ∷ 2000 ∷ 7000 ∷ 50000 ∷ 400000 ∷ 60000001 ∷ 400 ∷ 20000 ∷ []) ∷
+    unfair (12 ∷ 2000 ∷ 7000 ∷ 50000 ∷ 400000 ∷ 1600000 ∷ 60000001 ∷ 20000 ∷ []) ∷
+    shortest ∷
+    []
