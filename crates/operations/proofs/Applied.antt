@@ -14,7 +14,7 @@ use Rattle.cells.proofs.Places.{length-each, each-same, each-then}
 use Rattle.cells.proofs.Laws.{erase-twice}
 use Rattle.pages.proofs.Laws.{programs-commute, program-twice}
 use Rattle.operations.specs.Operations.{Operation, none, program, erase, cellOf}
-use Rattle.operations.specs.Bytes.{Program, carried, applied, erases, erasedIn, since, byteOf, bytesAt, andAll, startAt, programOf}
+use Rattle.operations.specs.Bytes.{Program, carried, applied, through, erases, erasedIn, since, byteOf, bytesAt, andAll, startAt, programOf}
 
 -- two lists joined: the second on what the first one left
 pub applied-joined : (os ps : List Operation) (xs : List ℕ) → applied (os ++ ps) xs ≡ applied ps (applied os xs)
@@ -24,11 +24,6 @@ applied-joined = end-joined carried
 pub length-applied : (os : List Operation) (xs : List ℕ) → length (applied os xs) ≡ length xs
 unfolding applied
 length-applied os xs = kept carried (λ (ys : List ℕ). length ys ≡ length xs) (λ o ys e. length-each (cellOf o) ys ∙ e) os xs refl
-
--- what the operations make of the byte at a place
-unfoldable pub through : List Operation → Cell
-unfolding run.end
-through os k x = run.end (λ o x. cellOf o k x) os x
 
 pub applied-each : (os : List Operation) (xs : List ℕ) → applied os xs ≡ each (through os) xs
 unfolding applied through

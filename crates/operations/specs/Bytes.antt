@@ -5,7 +5,7 @@ use mathlib.Core.List.{List, [], _∷_, _++_}
 use lib.Bits.{bitAnd}
 use lib.ListN.{length}
 use Rattle.runs.specs.Run as run
-use Rattle.cells.specs.Each.{each}
+use Rattle.cells.specs.Each.{Cell, each}
 use Rattle.pages.specs.Page.{aimedAt, last}
 use Rattle.cells.specs.Range.{range}
 use Rattle.operations.specs.Operations.{Operation, none, program, erase, cellOf}
@@ -18,6 +18,11 @@ carried o xs = each (cellOf o) xs
 unfoldable pub applied : List Operation → List ℕ → List ℕ
 unfolding run.end
 applied os xs = run.end carried os xs
+
+-- the byte at a place, after all of them
+unfoldable pub through : List Operation → Cell
+unfolding run.end
+through os k x = run.end (λ o x. cellOf o k x) os x
 
 -- an erase that covers the place
 abbrev pub erases : Operation → ℕ → Bool

@@ -24,10 +24,10 @@ use Rattle.part.specs.Frame as part
 use Rattle.part.proofs.Answers.{answerOf, some-answer}
 use Rattle.series.specs.Turns.{Turn, callOf, lengthsOf, replyTo, effectOf, onward, replies, operations, lastRecord}
 use Rattle.series.specs.Series.{Step, State, Made, turnsOf, lentTo, resultOf, left, next, results, end, madeOf}
-use Rattle.operations.specs.Bytes.{carried, applied, since, bytesAt, andAll, startAt}
+use Rattle.operations.specs.Bytes.{carried, applied, since, bytesAt, andAll, startAt, through}
 use Rattle.series.specs.Promises.{Promises, effects, asRefused}
 use Rattle.series.proofs.Lending.{lent-all, returned-all}
-use Rattle.operations.proofs.Applied.{applied-each, through, since-the-last-erase, programs-exchanged, operation-twice}
+use Rattle.operations.proofs.Applied.{applied-each, since-the-last-erase, programs-exchanged, operation-twice}
 use Rattle.series.proofs.Turns.{effect-begun, refused-reply, refused-effect, sound-series, each-works}
 use Rattle.series.proofs.Steps.{reply-is, array-is, register-is, refused-result, refused-left}
 

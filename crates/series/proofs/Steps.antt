@@ -12,22 +12,18 @@ use Rattle.cells.specs.Each.{each}
 use Rattle.opcodes.specs.Rows.{rowOf}
 use Rattle.judge.specs.Begins.{asksFor}
 use Rattle.device.specs.declared.Device.{Device}
-use Rattle.operations.specs.Operations.{Operation, cellOf, onRegister}
+use Rattle.operations.specs.Operations.{Operation, cellOf, onArray, onRegister}
 use Rattle.part.specs.Frame.{Call, Lent, factsOf, judgedOf, numberFor, replied, frame}
 use Rattle.part.specs.Frame as part
 use Rattle.part.specs.Effect.{takesEffect, operationOf}
 use Rattle.operations.proofs.Blocks.{operation-inside, once-inside}
 use Rattle.part.proofs.Effects.{only-then, then-always}
-use Rattle.series.specs.Turns.{Turn, callOf, lengthsOf, replyTo, effectOf}
+use Rattle.series.specs.Turns.{callOf, lengthsOf, replyTo, effectOf, doneOf, onceOf}
 use Rattle.series.specs.Series.{Step, State, returned, lentTo, resultOf, left}
 use Rattle.operations.specs.Bytes.{applied}
 use Rattle.series.specs.Promises.{asRefused}
 use Rattle.series.proofs.Lending.{length-lent, returned-each, returned-same}
 use Rattle.series.proofs.Turns.{refusal-is, refused-reply, accepted-turn, effect-accepted}
-
--- the operation on the register, if the call is accepted
-abbrev pub onceOf : Turn → Device → List Operation
-onceOf t d = cond (eqb (numberFor (callOf t d) (lengthsOf t)) 0) (onRegister (judgedOf (callOf t d) .action) (t .input) ∷ []) []
 
 module _ (s : Step) (t : State) where
   abbrev c : Call
@@ -64,6 +60,21 @@ module _ (s : Step) (t : State) where
           returned-each (cellOf (operationOf c (lengthsOf (s .turn)))) (s .turn .array) (t .array) (s .behind .array) (inside e)
       by false e =
           ap (λ (after : List ℕ). returned after (t .array)) (only-then c m (ap (takesEffect c) same-lengths ∙ e)) ∙ returned-same (s .turn .array) (t .array) (s .behind .array)
+
+  -- it is left with what the action does to it
+  pub done-is : left (resultOf s t) t .array ≡ applied (doneOf (s .turn) (t .device)) (t .array)
+  unfolding frame applied
+  done-is = rw same-lengths (by (eqb (numberFor c (lengthsOf (s .turn))) 0) (eqb-true (numberFor c (lengthsOf (s .turn))) 0))
+    where
+      by : (b : Bool) → (b ≡ true → numberFor c (lengthsOf (s .turn)) ≡ 0)
+          → returned (cond b (part.lentAfter c m) m .array) (t .array)
+          ≡ applied (cond b (onArray (judgedOf c .action) (s .turn .array) (s .turn .input) ∷ []) []) (t .array)
+      by true z =
+          let listed = accepted-turn (s .turn) (t .device) (refusal-is (s .turn) (t .device) ∙ z refl) .array in
+          rw (length-lent (s .turn .array) (t .array) (s .behind .array))
+          (returned-each (cellOf (onArray (judgedOf c .action) (s .turn .array) (s .turn .input))) (s .turn .array) (t .array) (s .behind .array)
+          (operation-inside (judgedOf c .action) (s .turn .array) (s .turn .input) listed))
+      by false z = returned-same (s .turn .array) (t .array) (s .behind .array)
 
   -- and the register likewise
   pub register-is : left (resultOf s t) t .register ≡ applied (onceOf (s .turn) (t .device)) (t .register)

@@ -4,14 +4,15 @@
 use Prim.Native.Nat.{ℕ}
 use mathlib.Core.Bool.{cond}
 use mathlib.Core.List.{List, [], _∷_}
+use lib.Dec.{eqb}
 use lib.ListN.{length}
 use Rattle.runs.specs.Run as run
 use Rattle.device.specs.declared.Device.{Device}
 use Rattle.settings.specs.declared.Settings.{Settings}
 use Rattle.calls.specs.declared.Lengths.{Lengths}
 use Rattle.calls.specs.declared.Signals.{Signals}
-use Rattle.operations.specs.Operations.{Operation}
-use Rattle.part.specs.Frame.{Call, Reply, call, replied}
+use Rattle.operations.specs.Operations.{Operation, onArray, onRegister}
+use Rattle.part.specs.Frame.{Call, Reply, call, numberFor, judgedOf, replied}
 use Rattle.part.specs.Effect.{takesEffect, operationOf}
 
 -- What a call is handed beside the record: the settings, the input bytes, the bits clocked with WP's level, the ticks elapsed and the
@@ -37,6 +38,14 @@ replyTo t d = replied (callOf t d) (lengthsOf t)
 -- the operation on the array, if one takes effect by demand 2's rule
 abbrev pub effectOf : Turn → Device → List Operation
 effectOf t d = cond (takesEffect (callOf t d) (lengthsOf t)) (operationOf (callOf t d) (lengthsOf t) ∷ []) []
+
+-- what an accepted call does to array and register, by its action
+abbrev pub doneOf : Turn → Device → List Operation
+doneOf t d =
+    cond (eqb (numberFor (callOf t d) (lengthsOf t)) 0) (onArray (judgedOf (callOf t d) .action) (t .array) (t .input) ∷ []) []
+
+abbrev pub onceOf : Turn → Device → List Operation
+onceOf t d = cond (eqb (numberFor (callOf t d) (lengthsOf t)) 0) (onRegister (judgedOf (callOf t d) .action) (t .input) ∷ []) []
 
 -- and the record that goes on to the next call
 abbrev pub onward : Turn → Device → Device

@@ -18,9 +18,9 @@ use Rattle.operations.specs.Operations.{Operation}
 use Rattle.part.specs.Frame.{Reply, Result, judgedOf, numberFor, replied}
 use Rattle.series.specs.Turns.{replies}
 use Rattle.series.specs.Series.{Step, State, Made, turnsOf, results, end, Ran}
-use Rattle.operations.specs.Bytes.{applied, erasedIn, since, bytesAt}
+use Rattle.operations.specs.Bytes.{applied, through, erasedIn, since, bytesAt}
 use Rattle.series.specs.Promises.{effects}
-use Rattle.operations.proofs.Applied.{applied-each, through}
+use Rattle.operations.proofs.Applied.{applied-each}
 use Rattle.series.proofs.Promises.{promises}
 use Rattle.worked.specs.Example.{Example, ShutOut, steps, begins}
 use Rattle.worked.proofs.Told.{length-blank, getD-blank}

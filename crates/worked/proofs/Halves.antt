@@ -6,18 +6,7 @@ use mathlib.Core.Path.{_≡_, refl, ap, _∙_}
 use native.Mathlib.Decide.{decLt}
 use native.Mathlib.Nat.{pow-suc}
 use native.Mathlib.Omega.{arith}
-
--- one place if the range is steady, else what the halves say, which is computed only then
-unfoldable pub halved : Bool → Bool → (Unit {0} → Bool) → Bool
-halved true one halves = one
-halved false one halves = halves tt
-
--- the test holds at the 2 ^ h places from `low` on
-unfoldable pub everywhere : (ℕ → Bool) → (ℕ → ℕ → Bool) → ℕ → ℕ → Bool
-unfolding halved
-everywhere test steady zero low = test low
-everywhere test steady (suc h) low =
-    halved (steady low (2 ^ suc h)) (test low) (λ u. everywhere test steady h low && everywhere test steady h (low + 2 ^ h))
+use Rattle.worked.proofs.Computed.{everywhere, halved}
 
 module _ (test : ℕ → Bool) (steady : ℕ → ℕ → Bool) (sound : (low n k : ℕ) → steady low n ≡ true → low ≤ k → k < low + n → test k ≡ test low) where
   pub at-each : (h low k : ℕ) → everywhere test steady h low ≡ true → low ≤ k → k < low + 2 ^ h → test k ≡ true

@@ -1,3 +1,4 @@
+pub mod Computed
 pub mod Halves
 pub mod Told
 pub mod Runs

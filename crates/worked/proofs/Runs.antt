@@ -14,19 +14,14 @@ use Rattle.device.specs.declared.Device.{Device}
 use Rattle.output.specs.Output.{Store, readAt}
 use Rattle.part.specs.Frame.{Call, Lent, lent, standsAt, judgedOf, numberFor, frame}
 use Rattle.part.specs.Frame as part
-use Rattle.series.specs.Turns.{callOf, lengthsOf, replyTo, effectOf}
+use Rattle.series.specs.Turns.{callOf, lengthsOf, doneOf, onceOf}
 use Rattle.series.specs.Series as series
 use Rattle.series.specs.Series.{Step, State, lentTo, resultOf, left, results, end}
 use Rattle.series.proofs.Lending.{lent-all}
-use Rattle.series.proofs.Steps.{same-lengths, reply-is, array-is, onceOf, register-is}
+use Rattle.series.proofs.Steps.{same-lengths, reply-is, done-is, register-is}
 use Rattle.worked.specs.Worked.{Came, cameOf}
-use Rattle.worked.proofs.Told.{Told, memoryOf, toldStore, more, length-told, goes-on, read-told}
-
--- what stands between the calls, told
-pub record Scene : Type 0 where
-  pub device : Device
-  pub array : Told
-  pub register : Told
+use Rattle.worked.proofs.Computed.{Told, Scene, toldStore, written, cameTold, next, allTold, endTold}
+use Rattle.worked.proofs.Told.{memoryOf, length-told, goes-on, read-told}
 
 abbrev pub stateOf : Scene → State
 stateOf t = record { device = t .device; array = memoryOf (t .array); register = memoryOf (t .register) }
@@ -37,42 +32,11 @@ pub record Whole (size other : ℕ) (s : Step) : Type 0 where
   pub register : s .turn .register ≡ other
   pub output : s .turn .output ≡ length (s .buffer)
 
--- what comes back from a step, and the scene afterwards, computed
-abbrev written : Call → Store → Store → List ℕ → List ℕ
-written c array register buffer =
-    each
-    (stored (range 0 (length (c .input))) (readAt (judgedOf c) (standsAt c) (c .signals .wp) (c .signals .bits) array register (c .input)))
-    buffer
-
-unfoldable pub cameTold : Step → Scene → Came
-cameTold s t =
-    record {
-      reply = replyTo (s .turn) (t .device);
-      output =
-          cond (eqb (numberFor (callOf (s .turn) (t .device)) (lengthsOf (s .turn))) 0)
-          (written (callOf (s .turn) (t .device)) (toldStore (t .array)) (toldStore (t .register)) (s .buffer))
-          (s .buffer);
-    }
-
-unfoldable pub next : Step → Scene → Scene
-next s t =
-    record {
-      device = replyTo (s .turn) (t .device) .device;
-      array = more (effectOf (s .turn) (t .device)) (t .array);
-      register = more (onceOf (s .turn) (t .device)) (t .register);
-    }
-
-abbrev pub allTold : List Step → Scene → List Came
-allTold ss t = run.outputs next cameTold ss t
-
-abbrev pub endTold : List Step → Scene → Scene
-endTold ss t = run.end next ss t
-
 -- what the step leaves
 left-told : (s : Step) (t : Scene) → left (resultOf s (stateOf t)) (stateOf t) ≡ stateOf (next s t)
 unfolding next
 left-told s t =
-    rw (reply-is s (stateOf t), array-is s (stateOf t), register-is s (stateOf t), goes-on (effectOf (s .turn) (t .device)) (t .array), goes-on (onceOf (s .turn) (t .device)) (t .register))
+    rw (reply-is s (stateOf t), done-is s (stateOf t), register-is s (stateOf t), goes-on (doneOf (s .turn) (t .device)) (t .array), goes-on (onceOf (s .turn) (t .device)) (t .register))
 
 module _ (s : Step) (t : Scene) (has : 0 < t .array .content .size) (holds : 0 < t .register .content .size)
     (whole : Whole (t .array .content .size) (t .register .content .size) s) where

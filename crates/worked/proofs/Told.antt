@@ -21,32 +21,15 @@ use Rattle.judge.specs.declared.Action.{Action}
 use Rattle.judge.specs.declared.Judged.{Judged}
 use Rattle.operations.specs.Operations.{Operation, none, program, erase, cellOf}
 use Rattle.output.specs.Output.{Store, store, storeOf, startOf, byteFrom, lineAt, unclocked, readAt}
-use Rattle.operations.specs.Bytes.{applied}
-use Rattle.operations.proofs.Applied.{applied-joined, applied-each, length-applied, through}
+use Rattle.operations.specs.Bytes.{applied, through}
+use Rattle.operations.proofs.Applied.{applied-joined, applied-each, length-applied}
 use Rattle.worked.specs.Worked.{Piece, Content, blank, painted, contentOf}
-use Rattle.worked.proofs.Halves.{everywhere, halved, at-each}
+use Rattle.worked.proofs.Computed.{Told, told, more, firstAt, toldStore, apart, inside, one-side, steadyFor, steadyOperations, steadyPiece, steadyPieces, everywhere, agrees}
+use Rattle.worked.proofs.Halves.{at-each}
 
--- what it held at first, and the operations since then, in order
-pub record Told : Type 0 where
-  pub content : Content
-  pub done : List Operation
-
-abbrev pub told : Content → Told
-told content = record { content = content; done = [] }
-
-abbrev pub more : List Operation → Told → Told
-more os t = record { content = t .content; done = t .done ++ os }
-
--- the byte that a place held at first
-abbrev pub firstAt : Content → ℕ → ℕ
-firstAt c k = painted (c .pieces) k (c .holds)
-
--- the memory, and the same as a store that is computed
+-- the memory
 unfoldable pub memoryOf : Told → List ℕ
 memoryOf t = applied (t .done) (contentOf (t .content))
-
-abbrev pub toldStore : Told → Store
-toldStore t = record { size = t .content .size; at = λ k. through (t .done) k (firstAt (t .content) k) }
 
 pub length-blank : (size byte : ℕ) → length (blank size byte) ≡ size
 unfolding blank
@@ -122,34 +105,6 @@ module _ (array register : Told) (has : 0 < array .content .size) (holds : 0 < r
       computed : Cell
       computed k x = readAt j stand wp bits (toldStore array) (toldStore register) input k
 
--- Where operations and pieces are steady over the n places from `low` on: no border of theirs lies within.
-unfoldable pub apart : ℕ → ℕ → ℕ → ℕ → Bool
-apart from to low n = leb to low || leb (low + n) from
-
-unfoldable pub inside : ℕ → ℕ → ℕ → ℕ → Bool
-inside from to low n = leb from low && leb (low + n) to
-
-unfoldable pub one-side : ℕ → ℕ → ℕ → ℕ → Bool
-one-side from to low n = apart from to low n || inside from to low n
-
-unfoldable pub steadyFor : Operation → ℕ → ℕ → Bool
-steadyFor none low n = true
-steadyFor (program size page start sent) low n = apart page (page + size) low n
-steadyFor (erase from to) low n = one-side from to low n
-
-unfoldable pub steadyOperations : List Operation → ℕ → ℕ → Bool
-steadyOperations [] low n = true
-steadyOperations (o ∷ os) low n = steadyFor o low n && steadyOperations os low n
-
--- a piece that rises is steady only outside its range
-unfoldable pub steadyPiece : ℕ → ℕ → ℕ → ℕ → ℕ → Bool
-steadyPiece zero from to low n = one-side from to low n
-steadyPiece (suc step) from to low n = apart from to low n
-
-unfoldable pub steadyPieces : List Piece → ℕ → ℕ → Bool
-steadyPieces [] low n = true
-steadyPieces (p ∷ ps) low n = steadyPiece (p .step) (p .from) (p .to) low n && steadyPieces ps low n
-
 module _ (low n k : ℕ) (p : low ≤ k) (q : k < low + n) where
   left-out : (from to : ℕ) → apart from to low n ≡ true → (range from to k ≡ false) × (range from to low ≡ false)
   unfolding apart
@@ -197,13 +152,6 @@ module _ (low n k : ℕ) (p : low ≤ k) (q : k < low + n) where
   steady-painted (piece ∷ ps) x y e same =
       let w = and-eq-true-iff (steadyPiece (piece .step) (piece .from) (piece .to) low n) (steadyPieces ps low n) .0 e in
       steady-piece (piece .step) (piece .from) (piece .to) (piece .value) (painted ps k x) (painted ps low y) (w .0) (steady-painted ps x y (w .1) same)
-
--- of a memory that held this at first the operations leave what the pieces say, at each place below 2 ^ 18
-unfoldable pub agrees : List Operation → List Piece → Content → Bool
-unfolding everywhere halved steadyFor steadyOperations steadyPiece steadyPieces apart inside one-side through painted
-agrees os ps c =
-    everywhere (λ k. eqb (through os k (firstAt c k)) (painted ps k (firstAt c k)))
-    (λ low n. steadyOperations os low n && (steadyPieces ps low n && steadyPieces (c .pieces) low n)) 18 0
 
 pub painted-told : (t : Told) (ps : List Piece) → t .content .size ≤ 262144 → agrees (t .done) ps (t .content) ≡ true
     → memoryOf t ≡ each (painted ps) (contentOf (t .content))

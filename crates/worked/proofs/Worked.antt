@@ -18,8 +18,7 @@ use Rattle.calls.specs.Refusal.{refusalOf}
 use Rattle.output.specs.Output.{readAt}
 use Rattle.part.specs.Frame.{judgedOf, numberFor, replied}
 use Rattle.series.specs.Series.{State, results, end}
-use Rattle.operations.specs.Operations.{Operation}
-use Rattle.operations.proofs.Applied.{through}
+use Rattle.operations.specs.Bytes.{through}
 use Rattle.worked.specs.Worked.{Exchange, Came, Row, Worked, EachWorked, Piece, Content, canary, stepOf, stepsOf, startOf, cameOf, painted, contentOf}
 use Rattle.worked.specs.Table.{table}
 use Rattle.worked.specs.Further.{further}
@@ -28,36 +27,12 @@ use Rattle.worked.specs.Words.{unmoved, aborting, counting, bytes}
 use Rattle.worked.specs.Flags.{flags}
 use Rattle.worked.specs.Data.{data-rows}
 use Rattle.worked.specs.Refused.{refused-rows}
-use Rattle.worked.proofs.Halves.{everywhere, halved}
-use Rattle.worked.proofs.Told.{Told, told, memoryOf, begins-content, agrees, steadyOperations, steadyPiece, steadyPieces, steadyFor, one-side, apart, inside, painted-told}
-use Rattle.worked.proofs.Runs.{Scene, AllWhole, stateOf, cameTold, next, allTold, endTold, all-told, end-told, end-content}
-
-abbrev sceneOf : Row → Scene
-sceneOf r = record { device = r .device; array = told (r .array); register = told (r .register) }
+use Rattle.worked.proofs.Computed.{Told, sceneOf, repliesOf, wantedOf, fittingIn, fitting, allFitting, everywhere, halved, agrees, steadyOperations, steadyPiece, steadyPieces, steadyFor, one-side, apart, inside, cameTold, next, endTold}
+use Rattle.worked.proofs.Told.{memoryOf, begins-content, painted-told}
+use Rattle.worked.proofs.Runs.{AllWhole, stateOf, all-told, end-told, end-content}
 
 start-told : (r : Row) → startOf r ≡ stateOf (sceneOf r)
 start-told r = rw (begins-content (r .array), begins-content (r .register))
-
--- what comes back in a row as it is computed, and as it is wanted
-repliesOf : Row → List Came
-repliesOf r = allTold (stepsOf r) (sceneOf r)
-
-wantedOf : Row → List Came
-wantedOf r = map (λ (e : Exchange). e .came) (r .exchanges)
-
--- a memory has a place and no more than there are, and the operations leave what the pieces say
-fittingIn : Content → List Operation → List Piece → Bool
-fittingIn c os ps = leb 1 (c .size) && (leb (c .size) 262144 && agrees os ps c)
-
-fitting : Row → Bool
-unfolding fittingIn
-fitting r =
-    fittingIn (r .array) (endTold (stepsOf r) (sceneOf r) .array .done) (r .arrayAfter) &&
-    fittingIn (r .register) (endTold (stepsOf r) (sceneOf r) .register .done) (r .registerAfter)
-
-allFitting : List Row → Bool
-allFitting [] = true
-allFitting (r ∷ rs) = fitting r && allFitting rs
 
 -- its steps lend their memories whole
 row-whole : (r : Row) (es : List Exchange)
