@@ -4,5 +4,7 @@ pub mod Texts
 pub mod RoundTrip
 pub mod Case
 pub mod Refused
+pub mod Named
+pub mod Stores
 pub mod Promises
 pub mod Worked

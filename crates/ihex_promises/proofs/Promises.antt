@@ -7,6 +7,7 @@ use Rattle.ihex_promises.proofs.Texts.{behind}
 use Rattle.ihex_promises.proofs.RoundTrip.{round-trip, handed-on}
 use Rattle.ihex_promises.proofs.Case.{alike, same-place}
 use Rattle.ihex_promises.proofs.Refused.{refused-output, refused-array}
+use Rattle.ihex_promises.proofs.Named.{last-record-wins, unnamed-stays}
 
 pub promises : Promises
 promises =
@@ -17,6 +18,8 @@ promises =
       behind = behind;
       refused-output = refused-output;
       refused-array = refused-array;
+      last-record-wins = last-record-wins;
+      unnamed-stays = unnamed-stays;
       alike = alike;
       same-place = same-place;
       endings = endings;

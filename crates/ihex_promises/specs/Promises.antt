@@ -1,4 +1,5 @@
--- What follows from the contracts of `write` and `read`: the round trip, and which texts are alike. Assumes nothing.
+-- What follows from the contracts of `write` and `read`: the round trip, which HEX record a byte is of, and which texts
+-- are alike. Assumes nothing.
 use Prim.Native.Nat.{ℕ, _-_, _<_, _≤_}
 use mathlib.Core.Bool.{Bool, true, false, cond, _||_}
 use mathlib.Core.List.{List, [], _∷_, _++_, map}
@@ -8,9 +9,10 @@ use lib.Dec.{eqb}
 use lib.ListN.{length, getD, take}
 use Rattle.cells.specs.Range.{range}
 use Rattle.memories.specs.Sizes.{isArray}
-use Rattle.ihex_layout.specs.Layout.{LF, CR}
+use Rattle.ihex_layout.specs.Layout.{LF, CR, dataAt}
 use Rattle.ihex_write.specs.Writer.{textOf, charactersFor, writtenOf, outputOf}
-use Rattle.ihex_read.specs.Reader.{linesIn, judgedIn, reading, readingOf, arrayOf}
+use Rattle.ihex_read.specs.Reader.{linesIn, judgedIn, startOf, upperBehind, reading, readingOf, arrayOf}
+use Rattle.ihex_promises.specs.Named.{uppersAfter, names, anyNames}
 
 -- a content is bytes
 abbrev pub Bytes : List ℕ → Type 0
@@ -43,6 +45,15 @@ pub record Promises : Type 0 where
   -- refused, nothing is written
   pub refused-output : (array output : List ℕ) → writtenOf array (length output) .refusal ≢ 0 → outputOf array output ≡ output
   pub refused-array : (text array : List ℕ) → readingOf text (length array) .refusal ≢ 0 → arrayOf text array ≡ array
+  -- Byte k afterwards is the data byte of the last HEX record that names k,
+  pub last-record-wins : (text array : List ℕ) (before after : List (List ℕ)) (line : List ℕ) (k : ℕ)
+      → k < length array → readingOf text (length array) .refusal ≡ 0
+      → linesIn text ≡ before ++ line ∷ after → names (uppersAfter 0 before) line k ≡ true
+      → anyNames (upperBehind (uppersAfter 0 before) line) after k ≡ false
+      → getD (arrayOf text array) k 0 ≡ dataAt line (k - startOf (uppersAfter 0 before) line)
+  -- and as it was if none does.
+  pub unnamed-stays : (text array : List ℕ) (k : ℕ)
+      → anyNames 0 (linesIn text) k ≡ false → getD (arrayOf text array) k 0 ≡ getD array k 0
   -- texts whose lines differ only in case are alike: the same refusal about the same line, and the same array
   pub alike : (text other : List ℕ) → capitals text ≡ capitals other → (array : List ℕ)
       → (readingOf text (length array) .refusal ≡ readingOf other (length array) .refusal)

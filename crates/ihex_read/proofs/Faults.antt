@@ -24,7 +24,7 @@ unfolding faultOf
 fault-by size upper line n k t a w s l f p = rw (w, s, l, f, p)
 
 -- What is known of a line that is not malformed.
-neither : (s t : Bool) → (s || t) ≡ false → (s ≡ false) × (t ≡ false)
+pub neither : (s t : Bool) → (s || t) ≡ false → (s ≡ false) × (t ≡ false)
 neither true t e = absurd (true≢false e)
 neither false t e = (refl, e)
 
