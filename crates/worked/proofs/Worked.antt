@@ -104,7 +104,7 @@ worked-polls = each-holds polls refl refl
 
 -- and those of the flags
 pub worked-flags : EachWorked flags
-unfolding flags unmoved repliesOf wantedOf fittingIn fitting allFitting agrees everywhere halved steadyOperations steadyPiece steadyPieces steadyFor one-side apart inside through painted run.end run.gathered cameTold next
+unfolding flags unmoved counting repliesOf wantedOf fittingIn fitting allFitting agrees everywhere halved steadyOperations steadyPiece steadyPieces steadyFor one-side apart inside through painted run.end run.gathered cameTold next
     replied numberFor refusalOf anyUnfair judgedOf judged byOpcode rowOf rows lookup readAt each eachFrom over covered last
 worked-flags = each-holds flags refl refl
 

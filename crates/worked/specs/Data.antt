@@ -6,82 +6,23 @@ use lib.ListN.{length, replicate}
 use Rattle.device.specs.declared.Device.{Device}
 use Rattle.device.specs.declared.Mode.the-variants.{Awake}
 use Rattle.worked.specs.Worked.{Exchange, Piece, Row}
+use Rattle.worked.specs.Frames.{latched, longer, on-array, reads, orders}
 use Rattle.worked.specs.Words.{held, stands, idle, enabled, busy, counting, clocked, whole, low, pulled, paced, came, quiet, begun, _⇒_, unmoved, aborting, piece, rising, bytes, row, sized, holding, registered}
 
--- each command that needs WEL, complete; the same with a byte more
-abbrev latched : List (List ℕ)
-latched =
-    (0x02 ∷ 0x00 ∷ 0x00 ∷ 0x10 ∷ 0x5A ∷ []) ∷
-    (0x81 ∷ 0x00 ∷ 0x00 ∷ 0x10 ∷ []) ∷
-    (0x20 ∷ 0x00 ∷ 0x00 ∷ 0x10 ∷ []) ∷
-    (0x52 ∷ 0x00 ∷ 0x00 ∷ 0x10 ∷ []) ∷
-    (0xD8 ∷ 0x00 ∷ 0x00 ∷ 0x10 ∷ []) ∷
-    (0x60 ∷ []) ∷
-    (0xC7 ∷ []) ∷
-    (0x62 ∷ []) ∷
-    (0x9B ∷ 0x00 ∷ 0x00 ∷ 0x02 ∷ 0x5A ∷ []) ∷
-    (0x01 ∷ 0x84 ∷ []) ∷
-    (0x31 ∷ 0x10 ∷ []) ∷
-    []
+-- with WEL 0 none is carried out, whatever the other flags
+abbrev without-wel : Device → Row
+without-wel d = row d 0x00 (unmoved "nothing" d latched) []
 
-abbrev longer : List (List ℕ)
-longer =
-    (0x02 ∷ 0x00 ∷ 0x00 ∷ 0x10 ∷ 0x5A ∷ 0x5B ∷ []) ∷
-    (0x81 ∷ 0x00 ∷ 0x00 ∷ 0x10 ∷ 0x00 ∷ []) ∷
-    (0x20 ∷ 0x00 ∷ 0x00 ∷ 0x10 ∷ 0x00 ∷ []) ∷
-    (0x52 ∷ 0x00 ∷ 0x00 ∷ 0x10 ∷ 0x00 ∷ []) ∷
-    (0xD8 ∷ 0x00 ∷ 0x00 ∷ 0x10 ∷ 0x00 ∷ []) ∷
-    (0x60 ∷ 0x00 ∷ []) ∷
-    (0xC7 ∷ 0x00 ∷ []) ∷
-    (0x62 ∷ 0x00 ∷ []) ∷
-    (0x9B ∷ 0x00 ∷ 0x00 ∷ 0x02 ∷ 0x5A ∷ 0x5B ∷ []) ∷
-    (0x01 ∷ 0x84 ∷ 0x00 ∷ []) ∷
-    (0x31 ∷ 0x10 ∷ 0x00 ∷ []) ∷
-    []
-
--- of those the programs and erases of the array
-abbrev on-array : List (List ℕ)
-on-array =
-    (0x02 ∷ 0x00 ∷ 0x00 ∷ 0x10 ∷ 0x5A ∷ []) ∷
-    (0x81 ∷ 0x00 ∷ 0x00 ∷ 0x10 ∷ []) ∷
-    (0x20 ∷ 0x00 ∷ 0x00 ∷ 0x10 ∷ []) ∷
-    (0x52 ∷ 0x00 ∷ 0x00 ∷ 0x10 ∷ []) ∷
-    (0xD8 ∷ 0x00 ∷ 0x00 ∷ 0x10 ∷ []) ∷
-    (0x60 ∷ []) ∷
-    (0xC7 ∷ []) ∷
-    (0x62 ∷ []) ∷
-    []
-
--- with WEL 0 none is carried out; with WEL 1, busy, none is and WEL stays; nor is any other command then but 05 and F0
-abbrev without-wel : Row
-without-wel = row (held false false false true false Awake 0) 0x00 (unmoved "nothing" (held false false false true false Awake 0) latched) []
-
-abbrev while-busy : Row
-while-busy =
-    row (held false false true true false Awake 5) 0x00
-    (unmoved "nothing" (held false false true true false Awake 5) latched ++
-    unmoved "nothing" (held false false true true false Awake 5)
-    ((0x03 ∷ 0x00 ∷ 0x00 ∷ 0x00 ∷ 0x00 ∷ []) ∷
-    (0x0B ∷ 0x00 ∷ 0x00 ∷ 0x00 ∷ 0x00 ∷ 0x00 ∷ []) ∷
-    (0x77 ∷ 0x00 ∷ 0x00 ∷ 0x00 ∷ 0x00 ∷ 0x00 ∷ 0x00 ∷ []) ∷
-    (0x9F ∷ 0x00 ∷ []) ∷
-    (0x15 ∷ 0x00 ∷ []) ∷
-    (0x06 ∷ []) ∷
-    (0x04 ∷ []) ∷
-    (0xB9 ∷ []) ∷
-    (0x79 ∷ []) ∷
-    (0xAB ∷ []) ∷
-    (0x00 ∷ []) ∷
-    []) ++
-    ((low (0x05 ∷ 0x00 ∷ 0x00 ∷ []) 4 ⇒ came "read" 1 2 (held false false true true false Awake 1) (0xFF ∷ 0x03 ∷ 0x11 ∷ [])) ∷ []))
-    []
+-- busy, none is and WEL stays; nor is any other command then but 05 and F0, which wants D0
+abbrev while-busy : Device → Row
+while-busy d = row d 0x00 (unmoved "nothing" d (latched ++ reads ++ orders ++ ((0xAB ∷ []) ∷ (0x00 ∷ []) ∷ (0xF0 ∷ 0xD1 ∷ []) ∷ (0x02 ∷ 0xD0 ∷ []) ∷ []))) []
 
 -- off a boundary each is aborted, though it is complete without the byte of which four bits were clocked, or two, or seven
 abbrev cut-by-four : Row
 cut-by-four = row (held true false true true false Awake 0) 0x00 (aborting 4 (held true false true true false Awake 0) (held true false false true false Awake 0) longer) []
 
 abbrev cut-by-six : Row
-cut-by-six = row (held false false true false true Awake 0) 0x00 (aborting 6 (held false false true false true Awake 0) (held false false false false true Awake 0) longer) []
+cut-by-six = row (held false true true false true Awake 0) 0x00 (aborting 6 (held false true true false true Awake 0) (held false true false false true Awake 0) longer) []
 
 abbrev cut-by-one : Row
 cut-by-one = row enabled 0x00 (aborting 1 enabled idle longer) []
@@ -110,6 +51,10 @@ programs-four-small =
     (row worn-enabled 0x3C
     ((whole (0x02 ∷ 0xFD ∷ 0x80 ∷ 0xFE ∷ 0x0F ∷ 0x33 ∷ 0x55 ∷ 0xF0 ∷ []) 0 ⇒ begun 0x8000 0x8100 (worn 2000) 8) ∷ [])
     (bytes 0x80FE (0x0C ∷ 0x30 ∷ []) ++ bytes 0x8000 (0x14 ∷ 0x30 ∷ [])))
+
+-- a byte of FFh is programmed too, though nothing changes
+abbrev programs-ff : Row
+programs-ff = row enabled 0x3C ((low (0x02 ∷ 0x00 ∷ 0x12 ∷ 0x00 ∷ 0xFF ∷ []) 0 ⇒ begun 0x1200 0x1300 (busy 12) 5) ∷ []) []
 
 -- two data bytes take the longer duration, at a page's last offset the second goes to its first
 abbrev programs-two : Row
@@ -147,10 +92,15 @@ programs-300 =
     ((whole (0x02 ∷ 0x01 ∷ 0x05 ∷ 0x10 ∷ (replicate 44 0x00 ++ counting 0x05 256)) 0 ⇒ begun 0x500 0x600 (busy 2000) 304) ∷ [])
     (rising 0x53C 0x600 0x05 ∷ rising 0x500 0x53C 0xC9 ∷ []))
 
--- Erases, with BPL 1 and WP low: the region around the address, on either size
+-- a register whose user's 64 bytes hold 3Ch, and the factory's 80h and on
+abbrev made : List Piece
+made = piece 0 64 0x3C ∷ rising 64 128 0x80 ∷ []
+
+-- Erases, with BPL 1 and WP low: the region around the address, on either size; the register stays
 abbrev erasing : ℕ → List ℕ → ℕ → ℕ → ℕ → Row
 erasing size frame ticks from to =
-    sized size (row worn-enabled 0x00 ((low frame 0 ⇒ begun from to (worn ticks) (length frame)) ∷ []) (piece from to 0xFF ∷ []))
+    registered 128 made []
+    (sized size (row worn-enabled 0x00 ((low frame 0 ⇒ begun from to (worn ticks) (length frame)) ∷ []) (piece from to 0xFF ∷ [])))
 
 -- Reads, of an array that holds 11h but here: at its beginning, around 010000h, at its end, and at two places that one address bit tells apart
 abbrev landmarks : List Piece
@@ -195,25 +145,43 @@ reads-small =
     [])
     []))
 
--- a read that is cut short drives the positions that it has
-abbrev short-reads : Row
-short-reads =
-    row (stands true false true 0) 0x11
-    (unmoved "read" (stands true false true 0)
+-- a read drives more than a page, and more than the register
+abbrev reads-a-page : Row
+reads-a-page =
+    holding (rising 0x0 0x200 0x20 ∷ [])
+    (row idle 0x11
+    ((low (0x03 ∷ 0x00 ∷ 0x00 ∷ 0x80 ∷ replicate 261 0x00) 0 ⇒ came "read" 4 261 idle (header ++ counting 0xA0 261)) ∷
+    (whole (0x77 ∷ 0x00 ∷ 0x00 ∷ 0x40 ∷ 0x00 ∷ 0x00 ∷ replicate 129 0x00) 0 ⇒
+    came "read" 6 129 idle (header ++ (0xFF ∷ 0xFF ∷ []) ++ counting 0x80 64 ++ replicate 64 0xFF ++ (0x80 ∷ []))) ∷
+    [])
+    [])
+
+-- a read that is cut short drives the positions that it has, a partial one too, and no flag moves
+abbrev short-reads : Device → Row
+short-reads d =
+    row d 0x11
+    (unmoved "read" d
     ((0x03 ∷ []) ∷
     (0x03 ∷ 0x00 ∷ []) ∷
+    (0x0B ∷ []) ∷
     (0x0B ∷ 0x00 ∷ 0x00 ∷ 0x00 ∷ 0x00 ∷ []) ∷
     (0x77 ∷ 0x00 ∷ 0x00 ∷ 0x00 ∷ 0x00 ∷ 0x00 ∷ []) ∷
     (0x05 ∷ []) ∷
     (0x9F ∷ []) ∷
     (0x15 ∷ []) ∷
     []) ++
-    ((low (0x9F ∷ 0x00 ∷ []) 0 ⇒ came "read" 1 1 (stands true false true 0) (0xFF ∷ 0x1F ∷ [])) ∷
-    (whole (0x9F ∷ 0x00 ∷ 0x00 ∷ []) 0 ⇒ came "read" 1 2 (stands true false true 0) (0xFF ∷ 0x1F ∷ 0x42 ∷ [])) ∷
-    (low (0x9F ∷ 0x00 ∷ 0x00 ∷ 0x00 ∷ []) 0 ⇒ came "read" 1 3 (stands true false true 0) (0xFF ∷ 0x1F ∷ 0x42 ∷ 0x00 ∷ [])) ∷
-    (low (0x9F ∷ 0x00 ∷ 0x00 ∷ 0x00 ∷ 0x00 ∷ []) 0 ⇒ came "read" 1 4 (stands true false true 0) (0xFF ∷ 0x1F ∷ 0x42 ∷ 0x00 ∷ 0x00 ∷ [])) ∷
-    (whole (0x15 ∷ 0x00 ∷ []) 0 ⇒ came "read" 1 1 (stands true false true 0) (0xFF ∷ 0x1F ∷ [])) ∷
-    (low (0x15 ∷ 0x00 ∷ 0x00 ∷ []) 0 ⇒ came "read" 1 2 (stands true false true 0) (0xFF ∷ 0x1F ∷ 0x65 ∷ [])) ∷
+    ((low (0x9F ∷ 0x00 ∷ []) 0 ⇒ came "read" 1 1 d (0xFF ∷ 0x1F ∷ [])) ∷
+    (whole (0x9F ∷ 0x00 ∷ 0x00 ∷ []) 0 ⇒ came "read" 1 2 d (0xFF ∷ 0x1F ∷ 0x42 ∷ [])) ∷
+    (low (0x9F ∷ 0x00 ∷ 0x00 ∷ 0x00 ∷ []) 0 ⇒ came "read" 1 3 d (0xFF ∷ 0x1F ∷ 0x42 ∷ 0x00 ∷ [])) ∷
+    (low (0x9F ∷ 0x00 ∷ 0x00 ∷ 0x00 ∷ 0x00 ∷ []) 0 ⇒ came "read" 1 4 d (0xFF ∷ 0x1F ∷ 0x42 ∷ 0x00 ∷ 0x00 ∷ [])) ∷
+    (clocked 20 (0x9F ∷ 0x00 ∷ 0x00 ∷ []) 0 ⇒ came "read" 1 2 d (0xFF ∷ 0x1F ∷ 0x4F ∷ [])) ∷
+    (clocked 9 (0x9F ∷ 0x00 ∷ []) 0 ⇒ came "read" 1 1 d (0xFF ∷ 0x7F ∷ [])) ∷
+    (whole (0x15 ∷ 0x00 ∷ []) 0 ⇒ came "read" 1 1 d (0xFF ∷ 0x1F ∷ [])) ∷
+    (low (0x15 ∷ 0x00 ∷ 0x00 ∷ []) 0 ⇒ came "read" 1 2 d (0xFF ∷ 0x1F ∷ 0x65 ∷ [])) ∷
+    (clocked 10 (0x15 ∷ 0x00 ∷ []) 0 ⇒ came "read" 1 1 d (0xFF ∷ 0x3F ∷ [])) ∷
+    (clocked 9 (0x0B ∷ 0x00 ∷ []) 0 ⇒ quiet "read" d 2) ∷
+    (clocked 44 (0x0B ∷ 0x00 ∷ 0x00 ∷ 0x00 ∷ 0x00 ∷ 0x00 ∷ []) 0 ⇒ came "read" 5 1 d (header ++ (0xFF ∷ 0x1F ∷ []))) ∷
+    (clocked 52 (0x77 ∷ 0x00 ∷ 0x00 ∷ 0x40 ∷ 0x00 ∷ 0x00 ∷ 0x00 ∷ []) 0 ⇒ came "read" 6 1 d (header ++ (0xFF ∷ 0xFF ∷ 0x8F ∷ []))) ∷
     []))
     []
 
@@ -228,17 +196,34 @@ clipped = row idle 0xFF (clip 9 0x7F ∷ clip 10 0x3F ∷ clip 11 0x1F ∷ clip 
 abbrev alternating : List ℕ
 alternating = 0x11 ∷ 0x01 ∷ 0x11 ∷ 0x01 ∷ []
 
+-- 64 of them
+abbrev sixteen : List ℕ
+sixteen = alternating ++ alternating ++ alternating ++ alternating
+
+abbrev pairs : List ℕ
+pairs = sixteen ++ sixteen ++ sixteen ++ sixteen
+
 abbrev long-poll : Row
 long-poll =
     row (busy 50) 0xFF
     ((paced 3 (whole (0x05 ∷ replicate 20 0x00) 0) ⇒
-    came "read" 1 20 idle (0xFF ∷ (alternating ++ alternating ++ alternating ++ alternating ++ (0x10 ∷ 0x00 ∷ 0x10 ∷ 0x00 ∷ [])))) ∷ [])
+    came "read" 1 20 idle (0xFF ∷ (sixteen ++ (0x10 ∷ 0x00 ∷ 0x10 ∷ 0x00 ∷ [])))) ∷ [])
     []
 
--- The register: the user's 64 bytes hold 3Ch, the factory's 80h and on. 0Fh, 33h and 55h from 3Eh on, and the array stays.
-abbrev made : List Piece
-made = piece 0 64 0x3C ∷ rising 64 128 0x80 ∷ []
+-- ticks of more than 32 bits, and positions that take more than 16 bits of ticks together: 66 at 1,000 each leave one of 66,001
+abbrev long-times : Row
+long-times =
+    row (busy 66001) 0xFF
+    ((paced 1000 (whole (0x05 ∷ replicate 65 0x00) 0) ⇒
+    came "read" 1 65 (busy 1) (0xFF ∷ (pairs ++ (0x11 ∷ [])))) ∷
+    (whole (0x05 ∷ 0x00 ∷ []) 4294967296 ⇒ came "read" 1 1 idle (0xFF ∷ 0x10 ∷ [])) ∷
+    [])
+    []
 
+abbrev longer-times : Row
+longer-times = row (busy 60000000) 0xFF ((low (0x05 ∷ 0x00 ∷ []) 9223372036854775808 ⇒ came "read" 1 1 idle (0xFF ∷ 0x00 ∷ [])) ∷ []) []
+
+-- OTP programs: 0Fh, 33h and 55h from 3Eh on, and the array stays
 abbrev otp-anded : Row
 otp-anded =
     registered 128 made (bytes 62 (0x0C ∷ 0x30 ∷ []) ++ bytes 0 (0x14 ∷ []))
@@ -280,14 +265,18 @@ otp-used =
 
 unfoldable pub data-rows : List Row
 data-rows =
-    without-wel ∷
-    while-busy ∷
+    without-wel (held true false false true false Awake 0) ∷
+    without-wel (held false true false false true Awake 0) ∷
+    while-busy (held true false true false true Awake 5) ∷
+    while-busy (held false true false true false Awake 5) ∷
+    while-busy (held false false true true false Awake 1) ∷
     cut-by-four ∷
     cut-by-six ∷
     cut-by-one ∷
     guarded-array ∷
     programs-four ∷
     programs-four-small ∷
+    programs-ff ∷
     programs-two ∷
     programs-255 ∷
     programs-256 ∷
@@ -295,9 +284,13 @@ data-rows =
     programs-300 ∷
     reads-large ∷
     reads-small ∷
-    short-reads ∷
+    reads-a-page ∷
+    short-reads (held true false true false true Awake 0) ∷
+    short-reads (held false true false true false Awake 0) ∷
     clipped ∷
     long-poll ∷
+    long-times ∷
+    longer-times ∷
     otp-anded ∷
     otp-one ∷
     otp-seventy ∷
@@ -306,7 +299,8 @@ data-rows =
     erasing 131072 (0x20 ∷ 0x01 ∷ 0x0F ∷ 0xFF ∷ 0xAA ∷ []) 50000 0x10000 0x11000 ∷
     erasing 131072 (0x52 ∷ 0x01 ∷ 0x80 ∷ 0x00 ∷ []) 400000 0x18000 0x20000 ∷
     erasing 131072 (0xD8 ∷ 0x02 ∷ 0x7F ∷ 0xFF ∷ []) 400000 0x0 0x8000 ∷
-    erasing 131072 (0x62 ∷ 0x12 ∷ []) 1600000 0x0 0x20000 ∷
+    erasing 131072 (0x62 ∷ 0x00 ∷ 0x00 ∷ 0x00 ∷ []) 1600000 0x0 0x20000 ∷
+    erasing 131072 (0x60 ∷ 0x00 ∷ 0x00 ∷ 0x00 ∷ []) 1600000 0x0 0x20000 ∷
     erasing 65536 (0x81 ∷ 0x01 ∷ 0xFF ∷ 0x80 ∷ []) 7000 0xFF00 0x10000 ∷
     erasing 65536 (0x20 ∷ 0xFF ∷ 0xFF ∷ 0xFF ∷ []) 50000 0xF000 0x10000 ∷
     erasing 65536 (0x52 ∷ 0x01 ∷ 0x00 ∷ 0x00 ∷ []) 400000 0x0 0x8000 ∷

@@ -8,6 +8,7 @@ use Rattle.device.specs.declared.Device.{Device}
 use Rattle.device.specs.declared.Mode.the-variants.{Awake, Deep, UltraDeep}
 use Rattle.device.specs.Device.{fresh}
 use Rattle.worked.specs.Worked.{Exchange, Row}
+use Rattle.worked.specs.Frames.{latched, reads, orders, unlisted}
 use Rattle.worked.specs.Words.{held, stands, idle, enabled, clocked, whole, low, pulled, paced, came, quiet, begun, _⇒_, unmoved, piece, row}
 
 -- a fresh record takes BPL, BP0 and the OTP-used mark from the caller; the rest is clear
@@ -54,7 +55,7 @@ status-bp0-wel-busy = shows (held false true true false true Awake 7) 0x17 0x01 
 abbrev writes : Bool → Bool → ℕ → Bool → Bool → ℕ → List Exchange
 writes bpl bp0 byte becomes also shown =
     (low (0x06 ∷ []) 0 ⇒ quiet "control" (stands bpl bp0 true 0) 1) ∷
-    (low (0x01 ∷ byte ∷ []) 0 ⇒ quiet "begun" (stands becomes also false 20000) 2) ∷
+    (low (0x01 ∷ byte ∷ 0xFF ∷ 0x00 ∷ 0x00 ∷ []) 0 ⇒ quiet "begun" (stands becomes also false 20000) 5) ∷
     (low (0x05 ∷ 0x00 ∷ []) 19999 ⇒ came "read" 1 1 (stands becomes also false 1) (0xFF ∷ shown ∷ [])) ∷
     []
 
@@ -89,6 +90,10 @@ write-exchanges = row (stands false true false 0) 0xFF (writes false true 0x80 t
 
 abbrev write-keeps : Row
 write-keeps = row (stands false true false 0) 0xFF (writes false true 0x04 false true 0x05) []
+
+-- all bits, and nothing but the two bits
+abbrev write-all : Row
+write-all = row idle 0xFF (writes false false 0xFF true true 0x85) []
 
 -- with BPL 1 and WP high BPL goes and BP0 stays; the other flags stay too
 abbrev guarded : Bool → Bool → Bool → Device
@@ -135,6 +140,9 @@ rste-cleared = enabling true 0x00 false
 abbrev rste-of-bit-4 : Row
 rste-of-bit-4 = enabling true 0xEF false
 
+abbrev rste-among-others : Row
+rste-among-others = enabling false 0x7B true
+
 -- the other flags unlike these, and BP0 1
 abbrev rste-unlike : Row
 rste-unlike =
@@ -160,16 +168,17 @@ reset-bp0 =
     ((paced 8 (whole (0xF0 ∷ 0xD0 ∷ []) 0) ⇒ quiet "control" (held false true false true true Awake 0) 2) ∷ [])
     []
 
--- none: RSTE 0; nothing, 55h or F0h for D0h; no second byte; off a boundary
-abbrev no-resets : Row
-no-resets =
-    row (held true false true true false Awake 9) 0xFF
-    (unmoved "nothing" (held true false true true false Awake 9) ((0xF0 ∷ []) ∷ (0xF0 ∷ 0x00 ∷ 0xD0 ∷ []) ∷ (0xF0 ∷ 0xF0 ∷ []) ∷ (0xF0 ∷ 0xD8 ∷ []) ∷ []) ++
-    ((clocked 20 (0xF0 ∷ 0xD0 ∷ 0x00 ∷ []) 0 ⇒ quiet "nothing" (held true false true true false Awake 9) 3) ∷
-    (pulled (clocked 15 (0xF0 ∷ 0xD0 ∷ []) 0) ⇒ quiet "nothing" (held true false true true false Awake 9) 2) ∷
+-- none: no second byte, 00h, F0h or D8h for D0h; off a boundary
+abbrev no-resets : Device → Row
+no-resets d =
+    row d 0xFF
+    (unmoved "nothing" d ((0xF0 ∷ []) ∷ (0xF0 ∷ 0x00 ∷ 0xD0 ∷ []) ∷ (0xF0 ∷ 0xF0 ∷ []) ∷ (0xF0 ∷ 0xD8 ∷ []) ∷ []) ++
+    ((clocked 20 (0xF0 ∷ 0xD0 ∷ 0x00 ∷ []) 0 ⇒ quiet "nothing" d 3) ∷
+    (pulled (clocked 15 (0xF0 ∷ 0xD0 ∷ []) 0) ⇒ quiet "nothing" d 2) ∷
     []))
     []
 
+-- nor with RSTE 0
 abbrev no-reset-idle : Row
 no-reset-idle =
     row (held true true true false true Awake 0) 0xFF ((low (0xF0 ∷ 0xD0 ∷ []) 0 ⇒ quiet "nothing" (held true true true false true Awake 0) 2) ∷ []) []
@@ -200,7 +209,7 @@ sleeps bpl bp0 wel rste used =
     row (held bpl bp0 wel rste used Awake 0) 0xFF
     ((low (0xB9 ∷ []) 0 ⇒ quiet "control" (held bpl bp0 wel rste used Deep 0) 1) ∷
     unmoved "nothing" (held bpl bp0 wel rste used Deep 0)
-    ((0x05 ∷ 0x00 ∷ []) ∷ (0x06 ∷ []) ∷ (0x04 ∷ []) ∷ (0x79 ∷ []) ∷ (0xB9 ∷ []) ∷ (0xF0 ∷ 0xD0 ∷ []) ∷ (0x9F ∷ 0x00 ∷ []) ∷ (0x60 ∷ []) ∷ (0xAA ∷ []) ∷ (0xAC ∷ []) ∷ []) ++
+    (((0x05 ∷ 0x00 ∷ []) ∷ (0xF0 ∷ 0xD0 ∷ []) ∷ (0xAA ∷ []) ∷ (0xAC ∷ []) ∷ []) ++ latched ++ reads ++ orders) ++
     ((clocked 7 (0xAB ∷ []) 0 ⇒ quiet "nothing" (held bpl bp0 wel rste used Deep 0) 1) ∷
     (clocked 12 (0xAB ∷ 0x00 ∷ []) 0 ⇒ quiet "nothing" (held bpl bp0 wel rste used Deep 0) 2) ∷
     (clocked 14 (0xAB ∷ 0x00 ∷ []) 0 ⇒ quiet "nothing" (held bpl bp0 wel rste used Deep 0) 2) ∷
@@ -231,6 +240,16 @@ dozes-off-boundary = dozes true true true true false (pulled (clocked 12 (0x79 �
 abbrev dozes-ab : Row
 dozes-ab = dozes false false true true true (whole (0xAB ∷ []) 0 ⇒ quiet "control" (held false false false false true Awake 0) 1)
 
+abbrev dozes-05 : Row
+dozes-05 = dozes true true false true true (low (0x05 ∷ 0x00 ∷ []) 9 ⇒ quiet "control" (held true true false false true Awake 0) 2)
+
+-- with a byte more they are control too
+abbrev doze : Row
+doze = row idle 0xFF ((whole (0x79 ∷ 0x00 ∷ []) 0 ⇒ quiet "control" (held false false false false false UltraDeep 0) 2) ∷ []) []
+
+abbrev sleep : Row
+sleep = row idle 0xFF ((whole (0xB9 ∷ 0x00 ∷ []) 0 ⇒ quiet "control" (held false false false false false Deep 0) 2) ∷ []) []
+
 -- off a boundary, by one bit to seven: 06 is nothing, and so are 04, B9 and 79; with WEL 1 or 0 it stays
 abbrev off : ℕ → ℕ → Device → Exchange
 off code bits d = clocked bits (code ∷ 0x00 ∷ []) 0 ⇒ quiet "nothing" d 2
@@ -241,26 +260,12 @@ off-boundary =
     (off 0x06 9 idle ∷ off 0x06 10 idle ∷ off 0x06 11 idle ∷ off 0x06 12 idle ∷ off 0x06 13 idle ∷ off 0x06 14 idle ∷ off 0x06 15 idle ∷ [])
     []
 
-abbrev off-boundary-enabled : Row
-off-boundary-enabled =
-    row (held true false true true false Awake 0) 0xFF
-    (off 0x04 12 (held true false true true false Awake 0) ∷
-    off 0x04 15 (held true false true true false Awake 0) ∷
-    off 0xB9 12 (held true false true true false Awake 0) ∷
-    off 0xB9 10 (held true false true true false Awake 0) ∷
-    off 0x79 12 (held true false true true false Awake 0) ∷
-    off 0x79 14 (held true false true true false Awake 0) ∷
-    off 0xAB 12 (held true false true true false Awake 0) ∷
-    [])
-    []
+abbrev off-boundary-flags : Device → Row
+off-boundary-flags d = row d 0xFF (off 0x04 12 d ∷ off 0x04 15 d ∷ off 0x06 12 d ∷ off 0xB9 12 d ∷ off 0xB9 10 d ∷ off 0x79 12 d ∷ off 0x79 14 d ∷ off 0xAB 12 d ∷ off 0xF0 12 d ∷ []) []
 
--- awake, AB is nothing and so is an opcode that is not listed: WEL stays
-abbrev unlisted : Row
-unlisted =
-    row (held false true true false true Awake 0) 0xFF
-    (unmoved "nothing" (held false true true false true Awake 0)
-    ((0xAB ∷ []) ∷ (0xAB ∷ 0x00 ∷ []) ∷ (0x00 ∷ []) ∷ (0xFF ∷ 0x00 ∷ []) ∷ (0x3B ∷ 0x00 ∷ 0x00 ∷ 0x00 ∷ 0x00 ∷ 0x00 ∷ []) ∷ (0x35 ∷ 0x00 ∷ []) ∷ (0x61 ∷ []) ∷ []))
-    []
+-- awake, AB is nothing and so is every opcode that is not listed: WEL stays, and the other flags
+abbrev unheard : Device → Row
+unheard d = row d 0xFF (unmoved "nothing" d (((0xAB ∷ []) ∷ (0xAB ∷ 0x00 ∷ []) ∷ (0x3B ∷ 0x00 ∷ 0x00 ∷ 0x00 ∷ 0x00 ∷ 0x00 ∷ []) ∷ []) ++ unlisted)) []
 
 -- fewer than 8 bits are nothing, whatever their opcode would be
 abbrev too-few : Row
@@ -288,6 +293,7 @@ flags =
     write-clears ∷
     write-exchanges ∷
     write-keeps ∷
+    write-all ∷
     locked-04 ∷
     locked-84 ∷
     locked-80 ∷
@@ -297,11 +303,14 @@ flags =
     rste-stays ∷
     rste-cleared ∷
     rste-of-bit-4 ∷
+    rste-among-others ∷
     rste-unlike ∷
     reset-all ∷
     reset-bpl ∷
     reset-bp0 ∷
-    no-resets ∷
+    no-resets (held true false true true false Awake 9) ∷
+    no-resets (held false true false true true Awake 9) ∷
+    no-resets (held false true true true true Awake 0) ∷
     no-reset-idle ∷
     latch-alone ∷
     latch-unlike ∷
@@ -311,8 +320,14 @@ flags =
     dozes-bp0 ∷
     dozes-off-boundary ∷
     dozes-ab ∷
+    dozes-05 ∷
+    doze ∷
+    sleep ∷
     off-boundary ∷
-    off-boundary-enabled ∷
-    unlisted ∷
+    off-boundary-flags (held true false true true false Awake 0) ∷
+    off-boundary-flags (held false true true false true Awake 0) ∷
+    off-boundary-flags (held false true false true true Awake 0) ∷
+    unheard (held false true true false true Awake 0) ∷
+    unheard (held true false false true false Awake 0) ∷
     too-few ∷
     []

@@ -1,5 +1,6 @@
 pub mod Worked
 pub mod Words
+pub mod Frames
 pub mod Table
 pub mod Further
 pub mod Polls

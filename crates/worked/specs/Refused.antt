@@ -58,6 +58,7 @@ room =
     ((given 0 erase ⇒ spared 5 enabled 0) ∷
     (given 1 (low (0x60 ∷ 0x00 ∷ []) 5) ⇒ spared 5 enabled 1) ∷
     (given 2 (low (0x05 ∷ 0x00 ∷ []) 5) ⇒ filled "read" 1 1 enabled (0xFF ∷ 0x02 ∷ [])) ∷
+    (given 0 (whole [] 5) ⇒ filled "nothing" 0 0 enabled []) ∷
     [])
     []
 
@@ -80,6 +81,20 @@ record-first =
 -- 7: a duration of 0, or of one tick too many, at each of the eight places
 abbrev unfair : List ℕ → Row
 unfair ticks = lasting ticks (row enabled 0x00 ((erase ⇒ refused 7 enabled 1) ∷ []) [])
+
+-- Each number with every fault of a higher number beside it, on a record whose flags are all 1: none of them moves, and no tick is counted.
+abbrev full : Mode → ℕ → Device
+full mode busy = held true true true true true mode busy
+
+abbrev faulty : ℕ → ℕ → ℕ → List ℕ → Device → Sent → ℕ → Row
+faulty number array register ticks d sent room =
+    lasting ticks (sized array (registered register [] [] (row d 0x00 ((given room (paced 1001 sent) ⇒ spared number d room) ∷ []) [])))
+
+abbrev zero-last : List ℕ
+zero-last = 12 ∷ 2000 ∷ 7000 ∷ 50000 ∷ 400000 ∷ 1600000 ∷ 400 ∷ 0 ∷ []
+
+abbrev usual : List ℕ
+usual = 12 ∷ 2000 ∷ 7000 ∷ 50000 ∷ 400000 ∷ 1600000 ∷ 400 ∷ 20000 ∷ []
 
 -- one tick is enough at each
 abbrev shortest : Row
@@ -121,4 +136,12 @@ refused-rows =
     unfair (12 ∷ 2000 ∷ 7000 ∷ 50000 ∷ 400000 ∷ 60000001 ∷ 400 ∷ 20000 ∷ []) ∷
     unfair (12 ∷ 2000 ∷ 7000 ∷ 50000 ∷ 400000 ∷ 1600000 ∷ 60000001 ∷ 20000 ∷ []) ∷
     shortest ∷
+    faulty 1 65537 127 zero-last (full Awake 60000001) (clocked 8 (many 8192) 5) 0 ∷
+    faulty 2 65536 127 zero-last (full UltraDeep 8) (clocked 8 (many 8192) 5) 0 ∷
+    faulty 3 131072 128 zero-last (full Deep 8) (clocked 8 (many 8192) 5) 0 ∷
+    faulty 4 65536 128 zero-last (full UltraDeep 8) (clocked 9 (0x60 ∷ []) 5) 0 ∷
+    faulty 5 131072 128 zero-last (full UltraDeep 8) erase 0 ∷
+    faulty 6 65536 128 zero-last (full UltraDeep 8) erase 1 ∷
+    faulty 7 131072 128 zero-last (full Awake 8) erase 1 ∷
+    faulty 8 65536 128 usual (full Awake 8) erase 1 ∷
     []

@@ -127,10 +127,14 @@ session =
     [])
     (piece 0xFE 0xFF 0x11 ∷ piece 0xFF 0x100 0x22 ∷ piece 0 1 0x33 ∷ [])))
 
--- the most bytes that are accepted, and one more
+-- the most bytes that are accepted, of which all but four are driven, and one more
 abbrev most-bytes : Row
 most-bytes =
-    row clear 0xFF ((whole (replicate 8192 0x00) 0 ⇒ quiet "nothing" idle 8192) ∷ (whole (replicate 8193 0x00) 0 ⇒ refused 3 idle 8193) ∷ []) []
+    row clear 0x11
+    ((whole (0x03 ∷ replicate 8191 0x00) 0 ⇒ came "read" 4 8188 idle (0xFF ∷ 0xFF ∷ 0xFF ∷ 0xFF ∷ replicate 8188 0x11)) ∷
+    (whole (replicate 8193 0x00) 0 ⇒ refused 3 idle 8193) ∷
+    [])
+    []
 
 -- the longest duration that is accepted, and one more
 abbrev long : ℕ → List ℕ

@@ -116,14 +116,14 @@ unfoldable pub bytes : ℕ → List ℕ → List Piece
 bytes from [] = []
 bytes from (b ∷ bs) = piece from (suc from) b ∷ bytes (suc from) bs
 
--- a row on the whole array with the typical times, whose register holds FFh and stays
+-- a row on the whole array with the typical times; the user's half of the register holds FFh, the factory's 80h and on, and both stay
 abbrev pub row : Device → ℕ → List Exchange → List Piece → Row
 row d holds exchanges after =
     record {
       settings = typical;
       device = d;
       array = record { size = 131072; holds = holds; pieces = [] };
-      register = record { size = 128; holds = 0xFF; pieces = [] };
+      register = record { size = 128; holds = 0xFF; pieces = rising 64 128 0x80 ∷ [] };
       exchanges = exchanges;
       arrayAfter = after;
       registerAfter = [];
