@@ -28,7 +28,7 @@ use Rattle.judge.specs.declared.Facts.{Facts}
 use Rattle.judge.specs.declared.Judged.{Judged}
 use Rattle.judge.specs.declared.Outcome.{Outcome}
 use Rattle.judge.specs.declared.Action.{Action}
-use Rattle.judge.specs.Begins.{changesArray, asksFor, lasts}
+use Rattle.judge.specs.Begins.{changesArray, asksFor, lasts, meansArray}
 use Rattle.device.specs.Device.{awake, deep, ultraDeep, isBusy, unsound, latched, dropped, moved, woken, reset}
 use Rattle.judge.specs.Judging.{quiet, nothing, control, aborted, driven, read, eraseKind, programKind, barred, ordered, carried, obeyed, complete, byOpcode, asleep, onBoundary, judged}
 use Rattle.device.proofs.Records.{sound-then, then-sound}
@@ -136,7 +136,7 @@ as-asked d s f = each-kind d s f (Faithful f) (λ o e c. absurd (false≢true c)
     of-work Work.WriteStatus e c = absurd (false≢true c)
     of-work Work.WriteStatusTwo e c = absurd (false≢true c)
 
--- what is begun takes its full duration, however many ticks the frame itself took
+-- what is begun
 abbrev isBegun : Outcome → Bool
 isBegun Outcome.Nothing = false
 isBegun Outcome.Read = false
@@ -144,6 +144,40 @@ isBegun Outcome.Control = false
 isBegun Outcome.Aborted = false
 isBegun Outcome.Begun = true
 
+-- takes effect, if the opcode is a program or an erase of the array
+abbrev Acting : Facts → Judged → Type 0
+Acting f j = isBegun (j .outcome) ≡ true → meansArray (rowOf (f .code) .command) ≡ true → changesArray (j .action) ≡ true
+
+acting : (d : Device) (s : Settings) (f : Facts) → Acting f (judged d s f)
+acting d s f = each-answer d s f (Acting f) none (λ m. none) (λ m. none) none (λ source e. none) (λ order e h. of-order order) (λ work e h b. of-work work e)
+  where
+    none : {A : Type 0} → false ≡ true → A
+    none c = absurd (false≢true c)
+
+    of-order : (order : Order) → Acting f (ordered order d f)
+    of-order Enable = none
+    of-order Disable = none
+    of-order DeepPowerDown = none
+    of-order UltraDeepPowerDown = none
+    of-order Resume = none
+    of-order Reset = by (d .rste && eqb (f .second) 0xD0)
+      where
+        by : (b : Bool) → Acting f (cond b (control (reset d)) (nothing d))
+        by true = none
+        by false = none
+
+    of-work : (work : Work) → rowOf (f .code) .command ≡ Works work → Acting f (carried work d s f)
+    of-work Work.Program e b m = refl
+    of-work (Work.Erase region) e b m = refl
+    of-work Work.Otp e b m = none (sym (ap meansArray e) ∙ m)
+    of-work Work.WriteStatus e b m = none (sym (ap meansArray e) ∙ m)
+    of-work Work.WriteStatusTwo e b m = none b
+
+pub begun-acts : (d : Device) (s : Settings) (f : Facts) → judged d s f .outcome ≡ Outcome.Begun → meansArray (rowOf (f .code) .command) ≡ true
+    → changesArray (judged d s f .action) ≡ true
+begun-acts d s f e m = acting d s f (ap isBegun e) m
+
+-- and takes its full duration, however many ticks the frame itself took
 abbrev Lasting : Settings → Facts → Judged → Type 0
 Lasting s f j = isBegun (j .outcome) ≡ true → j .device .busy ≡ lasts (rowOf (f .code) .command) s f
 

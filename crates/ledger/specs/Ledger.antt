@@ -90,6 +90,10 @@ settled busy signals r account l =
 unfoldable pub booked : ℕ → Signals → Reply → ℕ → Ledger → Ledger
 booked busy signals r account l = cond (eqb (r .refusal) 0) (settled busy signals r account l) l
 
+-- A month is closed: the tables are empty, and the operation that runs stays its account's, billed nothing so far in the new month.
+abbrev pub closed : Ledger → Ledger
+closed l = ledger (replicate 256 0) (replicate 256 0) (replicate 256 0) (runs (l .running .account) 0)
+
 -- the report on an account: its total, its most and its number; refusal 9 where there is none
 abbrev pub reported : ℕ → List ℕ → List ℕ → List ℕ → Reported
 reported account totals most numbers =

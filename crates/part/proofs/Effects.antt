@@ -13,9 +13,9 @@ use Rattle.cells.proofs.Places.{each-same}
 use Rattle.opcodes.specs.Rows.{rowOf}
 use Rattle.judge.specs.declared.Action.{Action}
 use Rattle.judge.specs.declared.Outcome.{Outcome}
-use Rattle.judge.specs.Begins.{changesArray, ready, lasts}
+use Rattle.judge.specs.Begins.{changesArray, meansArray, ready, lasts}
 use Rattle.judge.proofs.Begins.{exactly-when}
-use Rattle.judge.proofs.Leaves.{as-asked, full-duration}
+use Rattle.judge.proofs.Leaves.{as-asked, begun-acts, full-duration}
 use Rattle.part.specs.Words.{wordOf}
 use Rattle.operations.specs.Operations.{cellOf, onArray}
 use Rattle.part.specs.Frame.{Call, Lent, lengthsOf, numberFor, risen, factsOf, judgedOf, coveredBy, answered, refused, replied, frame}
@@ -64,6 +64,16 @@ module _ (c : Call) (m : Lent) where
           let w = as-asked (risen c) (c .settings) (factsOf c) (begins ∙ e) in
           rw t (ap (λ (a : Action). each (cellOf (onArray a (length (m .array)) (c .input))) (m .array)) (w .0), ap wordOf (w .1))
       by false t e = absurd (false≢true e)
+
+  -- a program or an erase of the array that is reported as begun took effect
+  pub begun-took-effect : meansArray (rowOf (factsOf c .code) .command) ≡ true → frame c m .reply .outcome ≡ "begun" → takesEffect c (lengthsOf c m) ≡ true
+  unfolding frame replied judgedOf
+  begun-took-effect means e = by (eqb (numberFor c (lengthsOf c m)) 0) e
+    where
+      by : (b : Bool) → cond b (answered (judgedOf c) (coveredBy (judgedOf c) c (lengthsOf c m))) (refused (numberFor c (lengthsOf c m)) (c .device)) .outcome ≡ "begun"
+          → (b && ready (risen c) (factsOf c)) ≡ true
+      by true e = sym begins ∙ begun-acts (risen c) (c .settings) (factsOf c) (word-tells (judgedOf c .outcome) Outcome.Begun e) means
+      by false e = absurd (true≢false (ap (λ (w : String). eqt w "nothing") e))
 
   -- what is begun, on whatever memory, takes its full duration from the rise on: neither the ticks elapsed nor the frame's come off it
   pub begun-lasts : frame c m .reply .outcome ≡ "begun" → frame c m .reply .device .busy ≡ lasts (rowOf (factsOf c .code) .command) (c .settings) (factsOf c)

@@ -4,3 +4,4 @@ pub mod Effects
 pub mod Covered
 pub mod Busy
 pub mod Frozen
+pub mod Promises

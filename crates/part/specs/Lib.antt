@@ -3,3 +3,4 @@ pub mod Frame
 pub mod Effect
 pub mod Busy
 pub mod Frozen
+pub mod Promises
