@@ -1,6 +1,7 @@
--- From an empty ledger each account's entries are those of its operations. Assumes nothing.
-use Prim.Native.Nat.{ℕ, zero, suc, _+_, _<_, min}
-use mathlib.Core.Bool.{false}
+-- From an empty ledger each account's entries are those of its operations; from a closed one, with the rest of what is running.
+-- Assumes nothing.
+use Prim.Native.Nat.{ℕ, zero, suc, _+_, _<_, _≤_, min, max}
+use mathlib.Core.Bool.{Bool, true, false, cond}
 use mathlib.Core.List.{List}
 use mathlib.Core.Path.{_≡_, refl, _∙_}
 use native.Mathlib.Omega.{arith}
@@ -8,10 +9,10 @@ use borrow.Author.Tests.{ne-eqb}
 use lib.Dec.{eqb}
 use lib.ListN.{length, getD, replicate, length-replicate, getD-replicate}
 use Rattle.device.specs.declared.Device.{Device}
-use Rattle.ledger.specs.Ledger.{empty}
+use Rattle.ledger.specs.Ledger.{Ledger, empty, closed}
 use Rattle.ledger_series.specs.Entries.{Entry, calls, lastLedger}
 use Rattle.ledger_series.specs.Operations.{passed, operations, bills, sum, largest, busyTicks}
-use Rattle.ledger_series.proofs.Folds.{Whole, Right}
+use Rattle.ledger_series.specs.Ledgers.{Whole, Right, rest}
 use Rattle.ledger_series.proofs.Totals.{total, number}
 use Rattle.ledger_series.proofs.Most.{most}
 use Rattle.ledger_series.proofs.Together.{together}
@@ -19,8 +20,34 @@ use Rattle.ledger_series.proofs.Together.{together}
 whole-empty : Whole empty
 whole-empty = record { totals = length-replicate {A = ℕ} 256 0; most = length-replicate {A = ℕ} 256 0; numbers = length-replicate {A = ℕ} 256 0 }
 
-right-empty : (busy : ℕ) → Right empty busy
+pub right-empty : (busy : ℕ) → Right empty busy
 right-empty busy = record { whole = whole-empty; fair = λ own. absurd (omega arith) }
+
+zeros : (account : ℕ) → account < 256 → getD (replicate {A = ℕ} 256 0) account 0 ≡ 0
+zeros account low = getD-replicate 256 account 0 0 low
+
+pub right-closed : (l : Ledger) (busy : ℕ) → busy ≤ 60000000 → Right (closed l) busy
+right-closed l busy short =
+    record {
+      whole = record { totals = length-replicate {A = ℕ} 256 0; most = length-replicate {A = ℕ} 256 0; numbers = length-replicate {A = ℕ} 256 0 };
+      fair = λ own. (omega arith, omega arith);
+    }
+
+-- a bill of 0 is none
+no-bill : (b : Bool) (n : ℕ) → max 0 (cond b (0 + n) 0) ≡ cond b n 0
+no-bill true n = omega arith
+no-bill false n = refl
+
+pub from-closed : (es : List Entry) (d : Device) (l : Ledger) (account : ℕ) → account < 256 → d .busy ≤ 60000000
+    → let cs = calls es d (closed l) in
+    (getD (lastLedger es d (closed l) .totals) account 0 ≡ rest account (l .running) (d .busy) (passed cs) + sum (bills account (operations cs)))
+    × (getD (lastLedger es d (closed l) .most) account 0 ≡ max (rest account (l .running) (d .busy) (passed cs)) (largest (bills account (operations cs))))
+    × (getD (lastLedger es d (closed l) .numbers) account 0 ≡ length (bills account (operations cs)))
+from-closed es d l account low short = (
+  total account es d (closed l) low (right-closed l (d .busy) short .whole) ∙ rw (zeros account low) (omega arith),
+  most account es d (closed l) low (right-closed l (d .busy) short) ∙ rw (zeros account low, no-bill (eqb (l .running .account) account) (min (d .busy) (passed (calls es d (closed l))))),
+  number account es d (closed l) low (right-closed l (d .busy) short .whole) ∙ rw (zeros account low) (omega arith),
+)
 
 sum-zeros : (n : ℕ) → sum (replicate n 0) ≡ 0
 unfolding sum
@@ -32,17 +59,14 @@ pub from-empty : (es : List Entry) (d : Device) (account : ℕ) → account < 25
     (getD (lastLedger es d empty .totals) account 0 ≡ sum bs) × (getD (lastLedger es d empty .most) account 0 ≡ largest bs)
     × (getD (lastLedger es d empty .numbers) account 0 ≡ length bs)
 from-empty es d account low = (
-  total account es d empty low (right-empty (d .busy)) ∙ rw (zeros, nobodys-account) (omega arith),
-  most account es d empty low (right-empty (d .busy)) ∙ rw (zeros, nobodys-account) (omega arith),
-  number account es d empty low (right-empty (d .busy)) ∙ rw zeros (omega arith),
+  total account es d empty low whole-empty ∙ rw (zeros account low, nobodys-account) (omega arith),
+  most account es d empty low (right-empty (d .busy)) ∙ rw (zeros account low, nobodys-account) (omega arith),
+  number account es d empty low whole-empty ∙ rw (zeros account low) (omega arith),
 )
   where
-    zeros : getD (replicate {A = ℕ} 256 0) account 0 ≡ 0
-    zeros = getD-replicate 256 account 0 0 low
-
     nobodys-account : eqb 256 account ≡ false
     nobodys-account = ne-eqb 256 account (λ q. omega arith)
 
 pub all-together : (es : List Entry) (d : Device)
     → sum (lastLedger es d empty .totals) + min (d .busy) (passed (calls es d empty)) ≡ busyTicks (calls es d empty)
-all-together es d = together es d empty (right-empty (d .busy)) ∙ rw (sum-zeros 256) (omega arith)
+all-together es d = together es d empty whole-empty ∙ rw (sum-zeros 256) (omega arith)

@@ -13,16 +13,11 @@ use Rattle.runs.specs.Run as run
 use Rattle.device.specs.declared.Device.{Device}
 use Rattle.ledger.specs.declared.Running.{Running}
 use Rattle.ledger.specs.Ledger.{Ledger, isAccount, runs, nobody, at, paid}
-use Rattle.ledger_series.specs.Entries.{Entry, Done, replyTo, ledgerBy, doneOf, calls, lastLedger}
+use Rattle.ledger_series.specs.Entries.{Entry, Done, replyTo, ledgerBy, doneOf, calls, lastRecord, lastLedger}
 use Rattle.ledger_series.specs.Operations.{stops, ticks}
+use Rattle.ledger_series.specs.Ledgers.{Whole, Fair, Right}
 use Rattle.ledger_series.proofs.Tables.{length-at, entry-at}
 use Rattle.ledger_series.proofs.Steps.{Stepped, billed, stepped}
-
--- the tables have an entry for each account
-pub record Whole (l : Ledger) : Type 0 where
-  pub totals : length (l .totals) ≡ 256
-  pub most : length (l .most) ≡ 256
-  pub numbers : length (l .numbers) ≡ 256
 
 whole-billed : (c : Done) (l : Ledger) (busy : ℕ) (numbers : List ℕ) (running : Running) → Whole l → length numbers ≡ 256
     → Whole (billed c l busy numbers running)
@@ -44,10 +39,6 @@ whole-step c l l′ busy busy′ w (Stepped.going acc beg left after) =
 pub off-then : (reset : Bool) (busy busy′ t p : ℕ) → busy′ ≡ cond reset 0 (busy - t) → min busy t + min busy′ p ≡ min busy (t + cond reset 0 p)
 off-then true busy busy′ t p e = omega arith
 off-then false busy busy′ t p e = omega arith
-
--- What was billed so far is not above the most, and with what is left it is no more than an operation may take.
-abbrev pub Fair : Ledger → ℕ → Type 0
-Fair l busy = l .running .account < 256 → (l .running .billed ≤ getD (l .most) (l .running .account) 0) × (l .running .billed + busy ≤ 60000000)
 
 pub paid-account : (r : Running) (off : ℕ) → paid r off .account ≡ r .account
 paid-account r off = by (isAccount (r .account))
@@ -88,22 +79,31 @@ fair-step c l l′ busy busy′ w fair (Stepped.going acc beg left after) = rw a
         rw (most-billed c l busy w fair own, paid-billed (l .running) (min busy (ticks c)) own (omega arith))
         (omega arith, let within = off-within (stops c) busy busy′ (ticks c) left in omega arith))
 
--- both
-pub record Right (l : Ledger) (busy : ℕ) : Type 0 where
-  pub whole : Whole l
-  pub fair : Fair l busy
+pub right-step : (c : Done) (l l′ : Ledger) (busy busy′ : ℕ) → Right l busy → Stepped c l l′ busy busy′ → Right l′ busy′
+right-step c l l′ busy busy′ r s =
+    record { whole = whole-step c l l′ busy busy′ (r .whole) s; fair = fair-step c l l′ busy busy′ (r .whole) (r .fair) s }
 
--- of a property of the last ledger, told from the ledger, the busy ticks and the calls still to come
-pub in-the-end : (P : Ledger → Ledger → ℕ → List Done → Type 0) → ((l : Ledger) (busy : ℕ) → Right l busy → P l l busy [])
-    → ((last : Ledger) (c : Done) (cs : List Done) (l l′ : Ledger) (busy′ : ℕ) → Right l (c .call .device .busy) → Stepped c l l′ (c .call .device .busy) busy′
+-- of a property of the last ledger, told from the ledger, the busy ticks and the calls still to come, where each step keeps what it needs
+pub in-the-end : (Needs : Ledger → ℕ → Type 0)
+    → ((c : Done) (l l′ : Ledger) (busy busy′ : ℕ) → Needs l busy → Stepped c l l′ busy busy′ → Needs l′ busy′)
+    → (P : Ledger → Ledger → ℕ → List Done → Type 0) → ((l : Ledger) (busy : ℕ) → Needs l busy → P l l busy [])
+    → ((last : Ledger) (c : Done) (cs : List Done) (l l′ : Ledger) (busy′ : ℕ) → Needs l (c .call .device .busy) → Stepped c l l′ (c .call .device .busy) busy′
     → P last l′ busy′ cs → P last l (c .call .device .busy) (c ∷ cs))
-    → (es : List Entry) (d : Device) (l : Ledger) → Right l (d .busy) → P (lastLedger es d l) l (d .busy) (calls es d l)
+    → (es : List Entry) (d : Device) (l : Ledger) → Needs l (d .busy) → P (lastLedger es d l) l (d .busy) (calls es d l)
 unfolding run.end run.gathered
-in-the-end P base step [] d l r = base l (d .busy) r
-in-the-end P base step (e ∷ es) d l r =
+in-the-end Needs keeps P base step [] d l r = base l (d .busy) r
+in-the-end Needs keeps P base step (e ∷ es) d l r =
     let c = doneOf e d l in
     let l′ = ledgerBy e d l in
     let d′ = replyTo e d l .device in
     let after = stepped e d l in
-    let kept : Right l′ (d′ .busy) = record { whole = whole-step c l l′ (d .busy) (d′ .busy) (r .whole) after; fair = fair-step c l l′ (d .busy) (d′ .busy) (r .whole) (r .fair) after } in
-    step (lastLedger es d′ l′) c (calls es d′ l′) l l′ (d′ .busy) r after (in-the-end P base step es d′ l′ kept)
+    step (lastLedger es d′ l′) c (calls es d′ l′) l l′ (d′ .busy) r after
+    (in-the-end Needs keeps P base step es d′ l′ (keeps c l l′ (d .busy) (d′ .busy) r after))
+
+-- what is needed is there at the end too
+pub stays-right : (es : List Entry) (d : Device) (l : Ledger) → Right l (d .busy) → Right (lastLedger es d l) (lastRecord es d l .busy)
+unfolding run.end
+stays-right [] d l r = r
+stays-right (e ∷ es) d l r =
+    let d′ = replyTo e d l .device in
+    stays-right es d′ (ledgerBy e d l) (right-step (doneOf e d l) l (ledgerBy e d l) (d .busy) (d′ .busy) r (stepped e d l))

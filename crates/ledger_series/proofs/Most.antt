@@ -14,15 +14,10 @@ use Rattle.ledger.specs.declared.Running.{Running}
 use Rattle.ledger.specs.Ledger.{Ledger, nobody, at, paid}
 use Rattle.ledger_series.specs.Entries.{Entry, Done, calls, lastLedger}
 use Rattle.ledger_series.specs.Operations.{stops, ticks, passed, operations, bills, largest}
+use Rattle.ledger_series.specs.Ledgers.{Whole, Fair, Right, mostAfter}
 use Rattle.ledger_series.proofs.Tables.{entry-at}
 use Rattle.ledger_series.proofs.Steps.{Stepped, billed}
-use Rattle.ledger_series.proofs.Folds.{Whole, Fair, Right, paid-account, paid-billed, most-billed, off-then, in-the-end}
-
--- An account's most in the end.
-abbrev pub mostAfter : ℕ → Ledger → ℕ → List Done → ℕ
-mostAfter account l busy cs =
-    max (max (getD (l .most) account 0) (cond (eqb (l .running .account) account) (l .running .billed + min busy (passed cs)) 0))
-    (largest (bills account (operations cs)))
+use Rattle.ledger_series.proofs.Folds.{right-step, paid-account, paid-billed, most-billed, off-then, in-the-end}
 
 most-begun : (own : Bool) (most bill : ℕ) (bs : List ℕ) → max (max most (cond own (0 + bill) 0)) (largest bs) ≡ max most (largest (cond own (bill ∷ bs) bs))
 unfolding largest
@@ -97,5 +92,5 @@ pub most : (account : ℕ) (es : List Entry) (d : Device) (l : Ledger) → accou
     → getD (lastLedger es d l .most) account 0 ≡ mostAfter account l (d .busy) (calls es d l)
 unfolding passed operations bills largest
 most account es d l low =
-    in-the-end (λ (last l : Ledger) (busy : ℕ) (cs : List Done). getD (last .most) account 0 ≡ mostAfter account l busy cs) (λ l busy r. so-far account l busy (r .fair) low)
+    in-the-end Right right-step (λ (last l : Ledger) (busy : ℕ) (cs : List Done). getD (last .most) account 0 ≡ mostAfter account l busy cs) (λ l busy r. so-far account l busy (r .fair) low)
     (λ last c cs l l′ busy′ r after e. e ∙ most-step account c cs l l′ (c .call .device .busy) busy′ low (r .whole) (r .fair) after) es d l

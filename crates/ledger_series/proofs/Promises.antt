@@ -19,7 +19,11 @@ use Rattle.ledger_series.specs.Operations.{sum, largest}
 use Rattle.ledger_series.specs.Series.{Booking, Desk, Made, entriesOf, resultOf, left, next, results, end, stepsThrough, madeOf, Ran}
 use Rattle.ledger_series.specs.Promises.{Promises, billsIn, effects}
 use Rattle.ledger_series.proofs.Entries.{one-entry}
-use Rattle.ledger_series.proofs.Bills.{from-empty, all-together}
+use Rattle.ledger_series.proofs.Bills.{right-empty, right-closed, from-empty, from-closed, all-together}
+use Rattle.ledger_series.proofs.Folds.{stays-right}
+use Rattle.ledger_series.proofs.Totals.{total, number}
+use Rattle.ledger_series.proofs.Most.{most}
+use Rattle.ledger_series.proofs.Together.{together}
 use Rattle.ledger_series.proofs.Polls.{whoever-polls, refused-changes-nothing}
 use Rattle.ledger_series.proofs.Memories.{as-the-part, as-computed, as-the-code-does, can-be-run}
 
@@ -60,7 +64,14 @@ promises =
       nine-exactly = λ e d l. nine-exactly (callOf (e .turn) d) (lengthsOf (e .turn)) (e .account) l;
       billed-by-the-code = billed-by-the-code;
       billed-to-the-beginner = from-empty;
+      from-any-ledger = λ es d l account low w. (total account es d l low w, number account es d l low w);
+      most-from-any = λ es d l account. most account es d l;
+      stays-right = stays-right;
+      right-empty = right-empty;
+      right-closed = right-closed;
+      next-month = from-closed;
       all-together = all-together;
+      all-together-from-any = together;
       whoever-polls = whoever-polls;
       refused-changes-nothing = refused-changes-nothing;
       as-the-part = as-the-part;

@@ -12,13 +12,10 @@ use Rattle.ledger.specs.declared.Running.{Running}
 use Rattle.ledger.specs.Ledger.{Ledger, isAccount, nobody, at, paid}
 use Rattle.ledger_series.specs.Entries.{Entry, Done, calls, lastLedger}
 use Rattle.ledger_series.specs.Operations.{stops, ticks, passed, sum, busyTicks}
+use Rattle.ledger_series.specs.Ledgers.{Whole, nobodys}
 use Rattle.ledger_series.proofs.Tables.{sum-at}
 use Rattle.ledger_series.proofs.Steps.{Stepped}
-use Rattle.ledger_series.proofs.Folds.{Whole, Right, paid-account, off-then, in-the-end}
-
--- What is left of the first record's ticks to pass, if nobody's operation is running.
-abbrev pub nobodys : Ledger → ℕ → List Done → ℕ
-nobodys l busy cs = cond (isAccount (l .running .account)) 0 (min busy (passed cs))
+use Rattle.ledger_series.proofs.Folds.{whole-step, paid-account, off-then, in-the-end}
 
 -- where no tick is left it does not matter whether somebody runs
 still-nobodys : (r : Running) (off busy p : ℕ)
@@ -63,10 +60,10 @@ none-left : (somebody : Bool) (sums busy : ℕ) → sums + cond somebody 0 (min 
 none-left true sums busy = refl
 none-left false sums busy = omega arith
 
-pub together : (es : List Entry) (d : Device) (l : Ledger) → Right l (d .busy)
+pub together : (es : List Entry) (d : Device) (l : Ledger) → Whole l
     → sum (lastLedger es d l .totals) + nobodys l (d .busy) (calls es d l) ≡ sum (l .totals) + busyTicks (calls es d l)
 unfolding passed busyTicks
 together =
-    in-the-end (λ (last l : Ledger) (busy : ℕ) (cs : List Done). sum (last .totals) + nobodys l busy cs ≡ sum (l .totals) + busyTicks cs)
+    in-the-end (λ (l : Ledger) (busy : ℕ). Whole l) whole-step (λ (last l : Ledger) (busy : ℕ) (cs : List Done). sum (last .totals) + nobodys l busy cs ≡ sum (l .totals) + busyTicks cs)
     (λ l busy r. none-left (isAccount (l .running .account)) (sum (l .totals)) busy)
-    (λ last c cs l l′ busy′ r after e. together-step (sum (last .totals)) c cs l l′ busy′ (r .whole) after e)
+    (λ last c cs l l′ busy′ r after e. together-step (sum (last .totals)) c cs l l′ busy′ r after e)

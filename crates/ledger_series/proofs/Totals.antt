@@ -15,13 +15,10 @@ use Rattle.ledger.specs.declared.Running.{Running}
 use Rattle.ledger.specs.Ledger.{Ledger, nobody, paid}
 use Rattle.ledger_series.specs.Entries.{Entry, Done, calls, lastLedger}
 use Rattle.ledger_series.specs.Operations.{stops, ticks, passed, operations, bills, sum}
+use Rattle.ledger_series.specs.Ledgers.{Whole, rest, totalAfter, numberAfter}
 use Rattle.ledger_series.proofs.Tables.{entry-at}
 use Rattle.ledger_series.proofs.Steps.{Stepped}
-use Rattle.ledger_series.proofs.Folds.{Whole, Right, paid-account, off-then, in-the-end}
-
--- the running operation's ticks of an account, if so many are left and so many pass
-abbrev pub rest : ℕ → Running → ℕ → ℕ → ℕ
-rest account r busy p = cond (eqb (r .account) account) (min busy p) 0
+use Rattle.ledger_series.proofs.Folds.{whole-step, paid-account, off-then, in-the-end}
 
 -- where no tick is left it does not matter who runs
 still-running : (account : ℕ) (r : Running) (off busy p : ℕ)
@@ -37,10 +34,6 @@ still-running account r off busy p = by (ℕ-discrete busy 0)
     by : Dec (busy ≡ 0) → rest account (cond (eqb busy 0) nobody (paid r off)) busy p ≡ rest account r busy p
     by (yes z) = rw z (nothing-left (eqb 256 account) (eqb (r .account) account))
     by (no n) = rw (ne-eqb busy 0 n, paid-account r off)
-
--- An account's total in the end.
-abbrev pub totalAfter : ℕ → Ledger → ℕ → List Done → ℕ
-totalAfter account l busy cs = getD (l .totals) account 0 + (rest account (l .running) busy (passed cs) + sum (bills account (operations cs)))
 
 -- what came off before the frame that begins is all that was left
 total-begun : (r own : Bool) (total busy t x bill : ℕ) (bs : List ℕ) → busy ≤ t
@@ -75,17 +68,13 @@ pub none-later : (b : Bool) (busy : ℕ) → cond b (min busy 0) 0 ≡ 0
 none-later true busy = omega arith
 none-later false busy = refl
 
-pub total : (account : ℕ) (es : List Entry) (d : Device) (l : Ledger) → account < 256 → Right l (d .busy)
+pub total : (account : ℕ) (es : List Entry) (d : Device) (l : Ledger) → account < 256 → Whole l
     → getD (lastLedger es d l .totals) account 0 ≡ totalAfter account l (d .busy) (calls es d l)
 unfolding passed operations bills sum
 total account es d l low =
-    in-the-end (λ (last l : Ledger) (busy : ℕ) (cs : List Done). getD (last .totals) account 0 ≡ totalAfter account l busy cs)
+    in-the-end (λ (l : Ledger) (busy : ℕ). Whole l) whole-step (λ (last l : Ledger) (busy : ℕ) (cs : List Done). getD (last .totals) account 0 ≡ totalAfter account l busy cs)
     (λ l busy r. rw (none-later (eqb (l .running .account) account) busy) (omega arith))
-    (λ last c cs l l′ busy′ r after e. e ∙ total-step account c cs l l′ (c .call .device .busy) busy′ low (r .whole) after) es d l
-
--- An account's number in the end.
-abbrev pub numberAfter : ℕ → Ledger → List Done → ℕ
-numberAfter account l cs = getD (l .numbers) account 0 + length (bills account (operations cs))
+    (λ last c cs l l′ busy′ r after e. e ∙ total-step account c cs l l′ (c .call .device .busy) busy′ low r after) es d l
 
 one-more : (own : Bool) (number bill : ℕ) (bs : List ℕ) → cond own (suc number) number + length bs ≡ number + length (cond own (bill ∷ bs) bs)
 one-more true number bill bs = omega arith
@@ -100,9 +89,9 @@ number-step account c cs l l′ busy busy′ low w (Stepped.beginning acc beg ow
     (one-more (eqb (c .account) account) (getD (l .numbers) account 0) (min (lastsFor (c .call)) (passed cs)) (bills account (operations cs)))
 number-step account c cs l l′ busy busy′ low w (Stepped.going acc beg left after) = rw (beg, after)
 
-pub number : (account : ℕ) (es : List Entry) (d : Device) (l : Ledger) → account < 256 → Right l (d .busy)
+pub number : (account : ℕ) (es : List Entry) (d : Device) (l : Ledger) → account < 256 → Whole l
     → getD (lastLedger es d l .numbers) account 0 ≡ numberAfter account l (calls es d l)
 unfolding operations bills
 number account es d l low =
-    in-the-end (λ (last l : Ledger) (busy : ℕ) (cs : List Done). getD (last .numbers) account 0 ≡ numberAfter account l cs) (λ l busy r. omega arith)
-    (λ last c cs l l′ busy′ r after e. e ∙ number-step account c cs l l′ (c .call .device .busy) busy′ low (r .whole) after) es d l
+    in-the-end (λ (l : Ledger) (busy : ℕ). Whole l) whole-step (λ (last l : Ledger) (busy : ℕ) (cs : List Done). getD (last .numbers) account 0 ≡ numberAfter account l cs) (λ l busy r. omega arith)
+    (λ last c cs l l′ busy′ r after e. e ∙ number-step account c cs l l′ (c .call .device .busy) busy′ low r after) es d l

@@ -1,6 +1,6 @@
 -- What the ledger promises of any series of calls, refused calls and resets among them: whose ticks are whose. To read it: es are entries,
 -- d is a record, l a ledger, bs are bookings, t and u are what stands before or after them. Assumes nothing.
-use Prim.Native.Nat.{ℕ, _+_, _<_, min}
+use Prim.Native.Nat.{ℕ, _+_, _<_, _≤_, min, max}
 use mathlib.Core.Bool.{true, cond}
 use mathlib.Core.List.{List, _∷_, _++_, map}
 use mathlib.Core.Logic.{_≢_}
@@ -13,11 +13,12 @@ use Rattle.series.specs.Turns as turns
 use Rattle.series.specs.Turns.{Turn, callOf, lengthsOf}
 use Rattle.series.specs.Series as series
 use Rattle.operations.specs.Bytes.{since, bytesAt, andAll, startAt}
-use Rattle.ledger.specs.Ledger.{Ledger, ledger, empty, shut, booked}
+use Rattle.ledger.specs.Ledger.{Ledger, ledger, empty, shut, booked, closed}
 use Rattle.ledger_frame.specs.Frame as through
 use Rattle.ledger_frame.specs.Frame.{Result}
 use Rattle.ledger_series.specs.Entries.{Entry, Done, entry, replyTo, calls, lastRecord, lastLedger, turnsThrough}
 use Rattle.ledger_series.specs.Operations.{passed, operations, bills, sum, largest, busyTicks}
+use Rattle.ledger_series.specs.Ledgers.{Whole, Right, rest, totalAfter, numberAfter, mostAfter, nobodys}
 use Rattle.ledger_series.specs.Series.{Booking, Desk, Made, entriesOf, left, results, end, stepsThrough, madeOf, Ran}
 
 -- what each operation of an account is billed in a series from an empty ledger
@@ -59,6 +60,25 @@ pub record Promises : Type 0 where
   pub billed-to-the-beginner : (es : List Entry) (d : Device) (account : ℕ) → account < 256
       → (getD (lastLedger es d empty .totals) account 0 ≡ sum (billsIn es d account)) × (getD (lastLedger es d empty .most) account 0 ≡ largest (billsIn es d account))
       × (getD (lastLedger es d empty .numbers) account 0 ≡ length (billsIn es d account))
+  -- From any ledger whose tables have 256 entries: an account's total is what stood there, the rest of what is running, if that is its own,
+  -- and the bills of what it begins; its number is what stood there and how many it begins.
+  pub from-any-ledger : (es : List Entry) (d : Device) (l : Ledger) (account : ℕ) → account < 256 → Whole l
+      → (getD (lastLedger es d l .totals) account 0 ≡ totalAfter account l (d .busy) (calls es d l))
+      × (getD (lastLedger es d l .numbers) account 0 ≡ numberAfter account l (calls es d l))
+  -- Its most is what stood there, what the running operation is billed in all, or the largest of the bills, if what it was billed so far was
+  -- right at first. Then it stays right; and it is in an empty ledger, and in a closed one.
+  pub most-from-any : (es : List Entry) (d : Device) (l : Ledger) (account : ℕ) → account < 256 → Right l (d .busy)
+      → getD (lastLedger es d l .most) account 0 ≡ mostAfter account l (d .busy) (calls es d l)
+  pub stays-right : (es : List Entry) (d : Device) (l : Ledger) → Right l (d .busy) → Right (lastLedger es d l) (lastRecord es d l .busy)
+  pub right-empty : (busy : ℕ) → Right empty busy
+  pub right-closed : (l : Ledger) (busy : ℕ) → busy ≤ 60000000 → Right (closed l) busy
+  -- The month after a close, wherever it is cut off: what is left of an operation that runs over the border is one bill of the new month, for the
+  -- account that began it, and counts in total and most; the number counts what begins in the month.
+  pub next-month : (es : List Entry) (d : Device) (l : Ledger) (account : ℕ) → account < 256 → d .busy ≤ 60000000
+      → let cs = calls es d (closed l) in
+      (getD (lastLedger es d (closed l) .totals) account 0 ≡ rest account (l .running) (d .busy) (passed cs) + sum (bills account (operations cs)))
+      × (getD (lastLedger es d (closed l) .most) account 0 ≡ max (rest account (l .running) (d .busy) (passed cs)) (largest (bills account (operations cs))))
+      × (getD (lastLedger es d (closed l) .numbers) account 0 ≡ length (bills account (operations cs)))
   -- The same of the code: whatever ran the series from an empty ledger left these tables.
   pub billed-by-the-code : (bs : List Booking) (t u : Desk) (cs : List Made) (account : ℕ) → Ran bs t cs u → t .ledger ≡ empty → account < 256
       → (getD (u .ledger .totals) account 0 ≡ sum (billsIn (entriesOf bs) (t .state .device) account))
@@ -67,6 +87,9 @@ pub record Promises : Type 0 where
   -- All totals together are the busy ticks that passed, but for those of the first record, which are billed to nobody.
   pub all-together : (es : List Entry) (d : Device)
       → sum (lastLedger es d empty .totals) + min (d .busy) (passed (calls es d empty)) ≡ busyTicks (calls es d empty)
+  -- From any ledger: what stood there and the busy ticks that passed, but for those of an operation that is nobody's.
+  pub all-together-from-any : (es : List Entry) (d : Device) (l : Ledger) → Whole l
+      → sum (lastLedger es d l .totals) + nobodys l (d .busy) (calls es d l) ≡ sum (l .totals) + busyTicks (calls es d l)
   -- Whoever polls: a call that begins nothing may be another account's, and nothing of the ledger or the record is different.
   pub whoever-polls : (before after : List Entry) (turn : Turn) (account other : ℕ) (d : Device) (l : Ledger) → account < 256 → other < 256
       → replyTo (entry turn account) (lastRecord before d l) (lastLedger before d l) .outcome ≢ "begun"
