@@ -19,7 +19,7 @@ use Rattle.ledger_frame.specs.Frame.{Result}
 use Rattle.ledger_series.specs.Entries.{Entry, Done, entry, replyTo, calls, lastRecord, lastLedger, turnsThrough}
 use Rattle.ledger_series.specs.Operations.{passed, operations, bills, sum, largest, busyTicks}
 use Rattle.ledger_series.specs.Ledgers.{Whole, Right, rest, totalAfter, numberAfter, mostAfter, nobodys}
-use Rattle.ledger_series.specs.Series.{Booking, Desk, Made, entriesOf, left, results, end, stepsThrough, madeOf, Ran}
+use Rattle.ledger_series.specs.Series.{Booking, Desk, Made, entriesOf, left, results, end, stepsThrough, resultsThrough, madeOf, Ran}
 
 -- what each operation of an account is billed in a series from an empty ledger
 abbrev pub billsIn : List Entry → Device → ℕ → List ℕ
@@ -102,6 +102,8 @@ pub record Promises : Type 0 where
   -- Demand 3, through the ledger. On memories, the calls that the ledger lets through are a series as it stands without one: what that
   -- promises of array and register holds of it.
   pub as-the-part : (bs : List Booking) (t : Desk) → end bs t .state ≡ series.end (stepsThrough bs t) (t .state)
+  -- Each of them is answered and leaves its memories as it does there.
+  pub answers-as-the-part : (bs : List Booking) (t : Desk) → resultsThrough bs t ≡ series.results (stepsThrough bs t) (t .state)
   -- Answers, last record, last ledger and the turns let through are computed from the entries, the first record and the first ledger,
   pub as-computed : (bs : List Booking) (t : Desk)
       → (map (λ (r : Result). r .reply) (results bs t) ≡ answersOf (calls (entriesOf bs) (t .state .device) (t .ledger)))

@@ -3,6 +3,7 @@ use Prim.Native.Nat.{ℕ}
 use mathlib.Core.Bool.{cond}
 use mathlib.Core.List.{List, [], _∷_, map}
 use Rattle.runs.specs.Run as run
+use Rattle.part.specs.Frame as part
 use Rattle.part.specs.Frame.{Lent, replyOf}
 use Rattle.series.specs.Turns.{callOf, lengthsOf}
 use Rattle.series.specs.Series as series
@@ -49,6 +50,15 @@ letThrough b t = cond (shutOut (callOf (b .step .turn) (t .state .device)) (leng
 -- the steps that the ledger let through
 abbrev pub stepsThrough : List Booking → Desk → List Step
 stepsThrough bs t = run.gathered next letThrough bs t
+
+-- what the part answered and left, unless the ledger shut the call out
+abbrev pub resultThrough : Booking → Desk → List part.Result
+resultThrough b t =
+    cond (shutOut (callOf (b .step .turn) (t .state .device)) (lengthsOf (b .step .turn)) (b .account) (t .ledger)) []
+    (record { reply = resultOf b t .reply; lent = resultOf b t .lent } ∷ [])
+
+abbrev pub resultsThrough : List Booking → Desk → List part.Result
+resultsThrough bs t = run.gathered next resultThrough bs t
 
 -- A call as the code made it: what it came back with, and what it left of the memories and of the tables that it was lent.
 pub record Made : Type 0 where

@@ -73,6 +73,16 @@ module _ {I S J T : Type 0} (next : I → S → S) (other : J → T → T) (view
       end-seen is (next i s) ∙
       (ap (end other (gathered next tells is (next i s))) (step i s) ∙ sym (end-joined other (tells i s) (gathered next tells is (next i s)) (view s)))
 
+  -- and what the other one tells, if an input tells what those that it hands on do
+  pub gathered-seen : {O : Type 0} (tell : I → S → List O) (also : J → T → List O)
+      → ((i : I) (s : S) → tell i s ≡ gathered other also (tells i s) (view s))
+      → (is : List I) (s : S) → gathered next tell is s ≡ gathered other also (gathered next tells is s) (view s)
+  unfolding gathered
+  gathered-seen tell also same [] s = refl
+  gathered-seen {O = O} tell also same (i ∷ is) s =
+      rw (same i s, gathered-seen tell also same is (next i s), step i s)
+      (sym (gathered-joined other also (tells i s) (gathered next tells is (next i s)) (view s)))
+
 -- the same with one input for each
 module _ {I S J T : Type 0} (next : I → S → S) (other : J → T → T) (view : S → T) (of : I → J)
     (step : (i : I) (s : S) → view (next i s) ≡ other (of i) (view s)) where

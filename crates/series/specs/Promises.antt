@@ -68,8 +68,16 @@ pub record Promises : Type 0 where
   pub change-places : (before after : List Operation) (between : List Program) (p q : Program) (xs : List ℕ)
       → applied (before ++ programOf p ∷ map programOf between ++ programOf q ∷ after) xs
       ≡ applied (before ++ programOf q ∷ map programOf between ++ programOf p ∷ after) xs
+  -- So two series on arrays that hold the same at first leave the same, if two such programs changed places among what took effect.
+  pub series-change-places : (ss also : List Step) (t u : State) (before after : List Operation) (between : List Program) (p q : Program) → t .array ≡ u .array
+      → effects ss t ≡ before ++ programOf p ∷ map programOf between ++ programOf q ∷ after
+      → effects also u ≡ before ++ programOf q ∷ map programOf between ++ programOf p ∷ after
+      → end ss t .array ≡ end also u .array
   -- An operation carried out twice in a row does what it does once.
   pub twice-is-once : (before after : List Operation) (o : Operation) (xs : List ℕ) → applied (before ++ o ∷ o ∷ after) xs ≡ applied (before ++ o ∷ after) xs
+  -- So does a series in which it took effect twice in a row.
+  pub series-twice-is-once : (ss also : List Step) (t u : State) (before after : List Operation) (o : Operation) → t .array ≡ u .array
+      → effects ss t ≡ before ++ o ∷ o ∷ after → effects also u ≡ before ++ o ∷ after → end ss t .array ≡ end also u .array
   -- A refused call changes nothing but its own answer: without it the series has the same operations, the same end, and the same
   -- results before and after it.
   pub refused-changes-nothing : (before after : List Step) (s : Step) (t : State) → replyTo (s .turn) (end before t .device) .refusal ≢ 0
