@@ -11,5 +11,37 @@ use Rattle.ledger.specs.Ledger.{aboveBefore, booked}
 use Rattle.ledger_series.specs.Worked.{Worked}
 
 pub worked : Worked
-unfolding run.end replied booked aboveBefore part.replied part.numberFor part.judgedOf refusalOf anyUnfair judged byOpcode rowOf rows lookup
-worked = record { first-million = refl; all-day = refl; nothing = refl; reset = refl; nobodys = refl; both = refl }
+unfolding run.end run.gathered replied booked aboveBefore part.replied part.numberFor part.judgedOf refusalOf anyUnfair judged byOpcode rowOf rows lookup
+worked =
+    record {
+      at-the-limit = refl;
+      total-above = refl;
+      first-above = refl;
+      last-above = refl;
+      number-at-the-limit = refl;
+      number-above = refl;
+      most-is-free = refl;
+      others-first = refl;
+      not-latched = refl;
+      latched-once = refl;
+      stays-above = refl;
+      stays-at-the-limit = refl;
+      past = refl;
+      border = refl;
+      border-partly = refl;
+      new-month = refl;
+      new-month-partly = refl;
+      closed-is = refl;
+      largest-number = refl;
+      nobody-runs = refl;
+      report = refl;
+      report-last = refl;
+      report-other = refl;
+      no-report = refl;
+      first-million = refl;
+      all-day = refl;
+      nothing = refl;
+      reset = refl;
+      nobodys = refl;
+      both = refl;
+    }
