@@ -27,6 +27,11 @@ abbrev pub startIn : Memory → ℕ → ℕ → ℕ → ℕ
 startIn Memory.Array array register address = cond (isArray array) (address % array) 0
 startIn Memory.Register array register address = cond (isRegister register) (address % register) 0
 
+-- how long it is, from the two lengths
+abbrev pub lengthIn : Memory → ℕ → ℕ → ℕ → ℕ → ℕ
+lengthIn Memory.Array array register address count = cond (isArray array) (min count (array - address % array)) 0
+lengthIn Memory.Register array register address count = cond (isRegister register) (min count (register - address % register)) 0
+
 -- where it lies: a place of the machine's memory is a block and an offset in it; so many bytes behind a place
 abbrev pub behind : ℕ × ℕ → ℕ → ℕ × ℕ
 behind place n = (place .0, n + place .1)

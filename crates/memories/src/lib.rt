@@ -6,7 +6,7 @@ ghost use mathlib.Core.Path.{_≡_};
 ghost use Prim.Native.Nat.{_%_, _<_};
 ghost use lib.ListN.{length};
 ghost use Rattle.memories.specs.Sizes.{isArray, isRegister};
-ghost use Rattle.memories.specs.Look.{startOf, viewOf, startIn, behind, lookedAt, lookedFrom};
+ghost use Rattle.memories.specs.Look.{startOf, viewOf, startIn, lengthIn, behind, lookedAt, lookedFrom};
 ghost use denote.Ref.{ptr};
 
 // Which of the lent memories.
@@ -58,6 +58,9 @@ pub fn look<'a>(
     count: usize,
 ) -> &'a [u8]
     ensures { λ r. ⌜ now r ≡ lookedAt memory (now (array .entry)) (now (register .entry)) address count ⌝ }
+    ensures { λ r. ⌜
+        length (now r) ≡ lengthIn memory (length (now (array .entry))) (length (now (register .entry))) address count
+        ⌝ }
     ensures { λ r. ⌜
         ptr r ≡ lookedFrom memory (ptr (array .entry)) (ptr (register .entry)) (now (array .entry)) (now (register .entry)) address
         ⌝ }

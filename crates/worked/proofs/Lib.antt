@@ -4,3 +4,4 @@ pub mod Told
 pub mod Runs
 pub mod Worked
 pub mod Example
+pub mod Looks

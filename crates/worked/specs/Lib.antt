@@ -8,3 +8,4 @@ pub mod Flags
 pub mod Data
 pub mod Refused
 pub mod Example
+pub mod Looks

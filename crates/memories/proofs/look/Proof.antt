@@ -3,8 +3,9 @@ use mathlib.Core.Path.{_≡_, sym, _∙_}
 use native.Mathlib.Omega.{arith}
 use borrow.Author.Needs.{needs}
 use lib.ListN.{length}
-use Rattle.memories.proofs.Long.{array-long}
-use Rattle.memories.proofs.Long.{register-long}
+use Rattle.memories.specs.Sizes.{isArray, isRegister}
+use Rattle.memories.proofs.Long.{array-long, register-long}
+use Rattle.memories.proofs.Views.{length-looked}
 use Rattle.memories.proofs.look.Statement.{statement}
 use Rattle.memories.proofs.look.Tie as tie
 
@@ -19,12 +20,18 @@ view-requires-2 c κs e =
 returns : tie.Need-returns
 returns c =
     let told = c .before .before .enum-told .given .1 in
-    (rw (told, c .view .ensures .0, c .before .is-array .ensures), rw (told, c .view .ensures .1, c .before .is-array .ensures))
+    let a = c .before .before .before .before .before .before .args in (
+      rw (told, c .view .ensures .0, c .before .is-array .ensures),
+      (rw (told, c .view .ensures .0, c .before .is-array .ensures) (length-looked (isArray (length (a .array .now))) (a .array .now) (a .address) (a .count)), rw (told, c .view .ensures .1, c .before .is-array .ensures)),
+    )
 
 returns-2 : tie.Need-returns-2
 returns-2 c =
     let told = c .before .before .enum-told2 .given .1 in
-    (rw (told, c .view2 .ensures .0, c .before .is-register .ensures), rw (told, c .view2 .ensures .1, c .before .is-register .ensures))
+    let a = c .before .before .before .before .before .before .args in (
+      rw (told, c .view2 .ensures .0, c .before .is-register .ensures),
+      (rw (told, c .view2 .ensures .0, c .before .is-register .ensures) (length-looked (isRegister (length (a .register .now))) (a .register .now) (a .address) (a .count)), rw (told, c .view2 .ensures .1, c .before .is-register .ensures)),
+    )
 
 pub look-spec : {M : Type 1} → statement M
 look-spec =
