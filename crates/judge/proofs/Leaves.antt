@@ -72,12 +72,12 @@ module _ (d : Device) (s : Settings) (f : Facts) (P : Judged → Type 0) (still 
   each-answer =
       let r = rowOf (f .code) in
       let heard = cond (f .busy && not (r .busy)) (nothing d) (byOpcode r d s f) in
-      choice (ultraDeep (d .mode)) (control (woken d)) (cond (ltb (f .bits) 8) (nothing d) (cond (deep (d .mode)) (asleep d f) heard)) waking
+      choice (ultraDeep (d .mode)) (control (woken d)) (cond (ltb (f .bits) 8) (nothing d) (cond (deep (d .mode)) (asleep (rowOf (f .code)) d f) heard)) waking
       (λ u.
-      choice (ltb (f .bits) 8) (nothing d) (cond (deep (d .mode)) (asleep d f) heard) (λ t. still)
+      choice (ltb (f .bits) 8) (nothing d) (cond (deep (d .mode)) (asleep (rowOf (f .code)) d f) heard) (λ t. still)
       (λ t.
-      choice (deep (d .mode)) (asleep d f) heard
-      (λ e. choice (eqb (f .code) 0xAB && onBoundary f) (control (moved d Awake)) (nothing d) (λ t. rousing e) (λ t. still))
+      choice (deep (d .mode)) (asleep (rowOf (f .code)) d f) heard
+      (λ e. choice (rowOf (f .code) .asleep && onBoundary f) (control (moved d Awake)) (nothing d) (λ t. rousing e) (λ t. still))
       (λ e.
       choice (f .busy && not (r .busy)) (nothing d) (byOpcode r d s f) (λ t. still)
       (λ a. of-opcode r (of-command (r .command) refl (record { up = neither (d .mode) u e; answers = a }))))))

@@ -120,9 +120,9 @@ byOpcode r d s f =
     (cond (r .latch) (aborted d)
     (nothing d)))
 
--- in deep power-down only ABh on a boundary is heard
-abbrev pub asleep : Device → Facts → Judged
-asleep d f = cond (eqb (f .code) 0xAB && onBoundary f) (control (moved d Awake)) (nothing d)
+-- in deep power-down only the row that says so is heard, on a boundary: ABh
+abbrev pub asleep : Row → Device → Facts → Judged
+asleep r d f = cond (r .asleep && onBoundary f) (control (moved d Awake)) (nothing d)
 
 -- Judging a frame, in this order:
 -- 1. from ultra-deep every frame wakes the part, however short
@@ -134,6 +134,6 @@ unfoldable pub judged : Device → Settings → Facts → Judged
 judged d s f =
     cond (ultraDeep (d .mode)) (control (woken d))
     (cond (ltb (f .bits) 8) (nothing d)
-    (cond (deep (d .mode)) (asleep d f)
+    (cond (deep (d .mode)) (asleep (rowOf (f .code)) d f)
     (cond (f .busy && not (rowOf (f .code) .busy)) (nothing d)
     (byOpcode (rowOf (f .code)) d s f))))

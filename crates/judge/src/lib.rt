@@ -266,11 +266,11 @@ fn by_opcode(row: Row, device: Device, settings: Settings, facts: Facts) -> Judg
     quiet(Outcome::Nothing, device)
 }
 
-// In deep power-down only ABh on a boundary is heard.
-fn asleep(device: Device, facts: Facts) -> Judged
-    ensures { λ r. ⌜ r ≡ judging.asleep device facts ⌝ }
+// In deep power-down only the row that says so is heard, on a boundary: ABh.
+fn asleep(row: Row, device: Device, facts: Facts) -> Judged
+    ensures { λ r. ⌜ r ≡ judging.asleep row device facts ⌝ }
 {
-    if (facts.code == 0xAB) & on_boundary(facts) {
+    if row.asleep & on_boundary(facts) {
         return quiet(Outcome::Control, device.moved(Mode::Awake));
     }
     quiet(Outcome::Nothing, device)
@@ -287,10 +287,10 @@ pub fn judge(device: Device, settings: Settings, facts: Facts) -> Judged
     if facts.bits < 8 {
         return quiet(Outcome::Nothing, device);
     }
-    if mode.is_deep() {
-        return asleep(device, facts);
-    }
     let row = opcodes::row_of(facts.code);
+    if mode.is_deep() {
+        return asleep(row, device, facts);
+    }
     if facts.busy & !row.busy {
         return quiet(Outcome::Nothing, device);
     }

@@ -1,55 +1,27 @@
--- What the number of a row says, by its hexadecimal digits, and what the number of a command. Assumes nothing.
+-- What the number of a row says, by its hexadecimal digits. Assumes nothing.
 use Prim.Native.Nat.{ℕ, zero, suc, _/_, _%_, _<_}
-use mathlib.Core.List.{List, [], _∷_}
 use mathlib.Core.Logic.{_≢_}
 use mathlib.Core.Path.{_≡_, sym}
 use native.Mathlib.Decide.{ℕ-discrete}
 use native.Mathlib.Omega.{arith}
 use lib.Dec.{eqb}
-use lib.ListN.{getD, List·getD-eq-default}
+use lib.ListN.{List·getD-eq-default}
 use Rattle.opcodes.specs.declared.Row.{Row}
-use Rattle.opcodes.specs.declared.Command.{Command}
-use Rattle.opcodes.specs.declared.Command.the-variants.{Unlisted, Reads, Orders, Works}
-use Rattle.opcodes.specs.declared.Source.the-variants.{Array, Register, Status, Identity, Legacy}
-use Rattle.opcodes.specs.declared.Order.the-variants.{Enable, Disable, DeepPowerDown, UltraDeepPowerDown, Resume, Reset}
-use Rattle.opcodes.specs.declared.Region.the-variants.{Page, Small, Large, Chip}
-use Rattle.opcodes.specs.declared.Work.the-variants.{Program, Erase, Otp, WriteStatus, WriteStatusTwo}
-
-abbrev commands : List Command
-commands =
-    Unlisted ∷
-    Reads Array ∷
-    Reads Register ∷
-    Reads Status ∷
-    Reads Identity ∷
-    Reads Legacy ∷
-    Orders Enable ∷
-    Orders Disable ∷
-    Orders DeepPowerDown ∷
-    Orders UltraDeepPowerDown ∷
-    Orders Resume ∷
-    Orders Reset ∷
-    Works Program ∷
-    Works (Erase Page) ∷
-    Works (Erase Small) ∷
-    Works (Erase Large) ∷
-    Works (Erase Chip) ∷
-    Works Otp ∷
-    Works WriteStatus ∷
-    Works WriteStatusTwo ∷
-    []
+use Rattle.opcodes.specs.declared.Command.the-variants.{Unlisted}
+use Rattle.opcodes.specs.Commands.{commands, commandOf}
 
 abbrev pub spelled : ℕ → Row
 spelled number =
     record {
-      code = number / 0x100000000000;
-      bytes = number / 0x10000000000 % 16;
-      first = number / 0x1000000000 % 16;
-      most = number / 0x100000 % 0x10000;
-      boundary = eqb (number / 0x10000 % 2) 1;
-      latch = eqb (number / 0x1000 % 2) 1;
-      busy = eqb (number / 0x100 % 2) 1;
-      command = getD commands (number % 0x100) Unlisted;
+      code = number / 0x1000000000000;
+      bytes = number / 0x100000000000 % 16;
+      first = number / 0x10000000000 % 16;
+      most = number / 0x1000000 % 0x10000;
+      boundary = eqb (number / 0x100000 % 2) 1;
+      latch = eqb (number / 0x10000 % 2) 1;
+      busy = eqb (number / 0x1000 % 2) 1;
+      asleep = eqb (number / 0x100 % 2) 1;
+      command = commandOf (number % 0x100);
     }
 
 -- n is none of the numbers from 1 to m
@@ -62,9 +34,9 @@ above n zero r z = omega arith
 above n (suc m) r z = let l : m < n = above n m (r .0) z in omega (arith, r .1)
 
 -- a number without a command of its own
-pub nameless : (n : ℕ) → None n 19 → Unlisted ≡ getD commands n Unlisted
+pub nameless : (n : ℕ) → None n 19 → Unlisted ≡ commandOf n
 nameless n r = by (ℕ-discrete n 0)
   where
-    by : Dec (n ≡ 0) → Unlisted ≡ getD commands n Unlisted
+    by : Dec (n ≡ 0) → Unlisted ≡ commandOf n
     by (yes e) = rw e
     by (no z) = sym (List·getD-eq-default commands Unlisted (above n 19 r z))

@@ -10,7 +10,7 @@ use lib.Dec.{eqb}
 use lib.ListN.{length, getD}
 use Rattle.opcodes.specs.declared.Row.{Row}
 use Rattle.opcodes.specs.Rows.{rows, lookup, rowOf}
-use Rattle.opcodes.specs.Rule.{rule}
+use Rattle.opcodes.specs.Rule.{rule, sleepRule}
 
 -- the test passes at every row
 every : (Row → Bool) → List Row → Bool
@@ -33,6 +33,11 @@ looked-up test (r ∷ rs) code e n =
 pub rule-kept : (code : ℕ) → rule (rowOf code) ≡ true
 unfolding every lookup rows rowOf
 rule-kept code = looked-up rule rows code refl refl
+
+-- and to that of deep power-down
+pub sleep-kept : (code : ℕ) → sleepRule (rowOf code) ≡ true
+unfolding every lookup rows rowOf
+sleep-kept code = looked-up sleepRule rows code refl refl
 
 -- no row has that opcode
 absent : ℕ → List Row → Bool

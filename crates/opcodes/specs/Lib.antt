@@ -1,2 +1,3 @@
+pub mod Commands
 pub mod Rows
 pub mod Rule

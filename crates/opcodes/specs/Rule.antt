@@ -42,3 +42,18 @@ ruleOf (Works work) r = r .boundary && r .latch && not (r .busy) && silent r
 
 abbrev pub rule : Row → Bool
 rule r = ruleOf (r .command) r
+
+-- a part in deep power-down answers one command, which resumes
+abbrev resumes : Command → Bool
+resumes Unlisted = false
+resumes (Reads source) = false
+resumes (Orders Enable) = false
+resumes (Orders Disable) = false
+resumes (Orders DeepPowerDown) = false
+resumes (Orders UltraDeepPowerDown) = false
+resumes (Orders Resume) = true
+resumes (Orders Reset) = false
+resumes (Works work) = false
+
+abbrev pub sleepRule : Row → Bool
+sleepRule r = Bool·beq (r .asleep) (resumes (r .command))

@@ -1,13 +1,7 @@
 // The opcodes of the AT25XE011: a row of fixed facts for each listed one, kept as a constant table, and looking one up.
 ghost use mathlib.Core.Path.{_≡_};
-ghost use mathlib.Core.List.{[], _∷_};
-ghost use lib.ListN.{getD};
+ghost use Rattle.opcodes.specs.Commands.{commandOf};
 ghost use Rattle.opcodes.specs.Rows.{rowOf};
-ghost use Rattle.opcodes.specs.declared.Command.the-variants.{Unlisted, Reads, Orders, Works};
-ghost use Rattle.opcodes.specs.declared.Source.the-variants.{Array, Register, Status, Identity, Legacy};
-ghost use Rattle.opcodes.specs.declared.Order.the-variants.{Enable, Disable, DeepPowerDown, UltraDeepPowerDown, Resume, Reset};
-ghost use Rattle.opcodes.specs.declared.Work.the-variants.{Program, Erase, Otp, WriteStatus, WriteStatusTwo};
-ghost use Rattle.opcodes.specs.declared.Region.the-variants.{Page, Small, Large, Chip};
 
 // Where a read takes the bytes that it drives: the array, the security register, the status bytes, the device's identity, or its
 // legacy identity.
@@ -55,7 +49,8 @@ pub enum Command {
 }
 
 // The fixed facts of an opcode: the fewest bytes that it needs, the first position that a read drives and the most that it drives,
-// whether it needs a byte boundary, whether it needs the latch, whether a busy part answers it, and what it does.
+// whether it needs a byte boundary, whether it needs the latch, whether a busy part answers it, whether a part in deep power-down does, and
+// what it does.
 pub struct Row {
     pub code: u8,
     pub bytes: u8,
@@ -64,45 +59,41 @@ pub struct Row {
     pub boundary: bool,
     pub latch: bool,
     pub busy: bool,
+    pub asleep: bool,
     pub command: Command,
 }
 
 // The rows, a number each, by its hexadecimal digits: the opcode, the fewest bytes, the first position, the most positions (FFFF: as
-// many as the frame has), boundary, latch, busy, and the number of its command, which `command_of` spells out.
+// many as the frame has), boundary, latch, busy, asleep, and the number of its command, which `command_of` spells out.
 const ROWS: [u64; 23] = [
-    0x03_1_4_FFFF_0_0_0_01,
-    0x0B_1_5_FFFF_0_0_0_01,
-    0x77_1_6_FFFF_0_0_0_02,
-    0x05_1_1_FFFF_0_0_1_03,
-    0x9F_1_1_0004_0_0_0_04,
-    0x15_1_1_0002_0_0_0_05,
-    0x06_1_0_0000_1_0_0_06,
-    0x04_1_0_0000_1_0_0_07,
-    0xB9_1_0_0000_1_0_0_08,
-    0x79_1_0_0000_1_0_0_09,
-    0xAB_1_0_0000_1_0_0_0A,
-    0xF0_2_0_0000_1_0_1_0B,
-    0x02_5_0_0000_1_1_0_0C,
-    0x81_4_0_0000_1_1_0_0D,
-    0x20_4_0_0000_1_1_0_0E,
-    0x52_4_0_0000_1_1_0_0F,
-    0xD8_4_0_0000_1_1_0_0F,
-    0x60_1_0_0000_1_1_0_10,
-    0xC7_1_0_0000_1_1_0_10,
-    0x62_1_0_0000_1_1_0_10,
-    0x9B_5_0_0000_1_1_0_11,
-    0x01_2_0_0000_1_1_0_12,
-    0x31_2_0_0000_1_1_0_13,
+    0x03_1_4_FFFF_0_0_0_0_01,
+    0x0B_1_5_FFFF_0_0_0_0_01,
+    0x77_1_6_FFFF_0_0_0_0_02,
+    0x05_1_1_FFFF_0_0_1_0_03,
+    0x9F_1_1_0004_0_0_0_0_04,
+    0x15_1_1_0002_0_0_0_0_05,
+    0x06_1_0_0000_1_0_0_0_06,
+    0x04_1_0_0000_1_0_0_0_07,
+    0xB9_1_0_0000_1_0_0_0_08,
+    0x79_1_0_0000_1_0_0_0_09,
+    0xAB_1_0_0000_1_0_0_1_0A,
+    0xF0_2_0_0000_1_0_1_0_0B,
+    0x02_5_0_0000_1_1_0_0_0C,
+    0x81_4_0_0000_1_1_0_0_0D,
+    0x20_4_0_0000_1_1_0_0_0E,
+    0x52_4_0_0000_1_1_0_0_0F,
+    0xD8_4_0_0000_1_1_0_0_0F,
+    0x60_1_0_0000_1_1_0_0_10,
+    0xC7_1_0_0000_1_1_0_0_10,
+    0x62_1_0_0000_1_1_0_0_10,
+    0x9B_5_0_0000_1_1_0_0_11,
+    0x01_2_0_0000_1_1_0_0_12,
+    0x31_2_0_0000_1_1_0_0_13,
 ];
 
 // The command of a number; 0 and those past the list stand for none.
 fn command_of(number: u64) -> Command
-    ensures { λ r. ⌜
-        r ≡
-        getD
-        (Unlisted ∷ Reads Array ∷ Reads Register ∷ Reads Status ∷ Reads Identity ∷ Reads Legacy ∷ Orders Enable ∷ Orders Disable ∷ Orders DeepPowerDown ∷ Orders UltraDeepPowerDown ∷ Orders Resume ∷ Orders Reset ∷ Works Program ∷ Works (Erase Page) ∷ Works (Erase Small) ∷ Works (Erase Large) ∷ Works (Erase Chip) ∷ Works Otp ∷ Works WriteStatus ∷ Works WriteStatusTwo ∷ [])
-        number Unlisted
-        ⌝ }
+    ensures { λ r. ⌜ r ≡ commandOf number ⌝ }
 {
     match number {
         0x01 => Command::Reads(Source::Array),
@@ -136,15 +127,16 @@ pub fn row_of(code: u8) -> Row
     let mut i = 0;
     while i < 23 {
         let row = rows[i];
-        if row / 0x1000_0000_0000 == code as u64 {
+        if row / 0x1_0000_0000_0000 == code as u64 {
             return Row {
                 code: code,
-                bytes: (row / 0x100_0000_0000 % 16) as u8,
-                first: (row / 0x10_0000_0000 % 16) as u8,
-                most: (row / 0x10_0000 % 0x1_0000) as u16,
-                boundary: row / 0x1_0000 % 2 == 1,
-                latch: row / 0x1000 % 2 == 1,
-                busy: row / 0x100 % 2 == 1,
+                bytes: (row / 0x1000_0000_0000 % 16) as u8,
+                first: (row / 0x100_0000_0000 % 16) as u8,
+                most: (row / 0x100_0000 % 0x1_0000) as u16,
+                boundary: row / 0x10_0000 % 2 == 1,
+                latch: row / 0x1_0000 % 2 == 1,
+                busy: row / 0x1000 % 2 == 1,
+                asleep: row / 0x100 % 2 == 1,
                 command: command_of(row % 0x100),
             };
         }
@@ -158,6 +150,7 @@ pub fn row_of(code: u8) -> Row
         boundary: false,
         latch: false,
         busy: false,
+        asleep: false,
         command: Command::Unlisted,
     }
 }

@@ -18,7 +18,7 @@ enough-bits : (c : tie.Else2) → ltb (c .before .before .before .before .args .
 enough-bits c = le-ltb _ _ (c .if2 .left)
 
 -- past step 3
-not-deep : (c : tie.Else3) → deep (c .before .before .before .before .before .before .args .device .mode) ≡ false
+not-deep : (c : tie.Else3) → deep (c .before .before .before .before .before .before .before .args .device .mode) ≡ false
 not-deep c = sym (c .before .is-deep .ensures) ∙ c .if3 .left
 
 returns : tie.Need-returns
@@ -32,22 +32,39 @@ returns-2 c = rw (not-ultra-deep (c .before .before .before), lt-ltb _ _ (c .bef
 returns-3 : tie.Need-returns-3
 unfolding judged
 returns-3 c =
-    rw
-    (not-ultra-deep (c .before .before .before .before .before), enough-bits (c .before .before .before), sym (c .before .before .is-deep .ensures) ∙ c .before .if3 .taken, c .asleep .ensures)
+    let past = c .before .before .before in
+    rw (
+      not-ultra-deep (past .before .before .before),
+      enough-bits (past .before),
+      sym (c .before .before .is-deep .ensures) ∙ c .before .if3 .taken,
+      c .asleep .ensures,
+      past .row-of .ensures,
+    )
 
 returns-4 : tie.Need-returns-4
 unfolding judged
 returns-4 c =
     let past = c .before .before .before .before in
-    rw
-    (not-ultra-deep (past .before .before .before .before .before), enough-bits (past .before .before .before), not-deep (past .before), rw (past .row-of .ensures) at (c .before .if4 .taken), c .quiet3 .ensures)
+    rw (
+      not-ultra-deep (past .before .before .before .before .before),
+      enough-bits (past .before .before .before),
+      not-deep past,
+      rw (past .before .before .row-of .ensures) at (c .before .if4 .taken),
+      c .quiet3 .ensures,
+    )
 
 returns-5 : tie.Need-returns-5
 unfolding judged
 returns-5 c =
     let past = c .before .before .before .before in
-    rw
-    (not-ultra-deep (past .before .before .before .before .before), enough-bits (past .before .before .before), not-deep (past .before), rw (past .row-of .ensures) at (c .before .if4 .left), c .by-opcode .ensures, past .row-of .ensures)
+    rw (
+      not-ultra-deep (past .before .before .before .before .before),
+      enough-bits (past .before .before .before),
+      not-deep past,
+      rw (past .before .before .row-of .ensures) at (c .before .if4 .left),
+      c .by-opcode .ensures,
+      past .before .before .row-of .ensures,
+    )
 
 pub judge-spec : {M : Type 1} → statement M
 judge-spec =
@@ -61,8 +78,8 @@ judge-spec =
     returns-2
     (λ c κs. search needs)
     (λ c κs. search needs)
-    returns-3
     (λ c κs. search needs)
+    returns-3
     (λ c κs. search needs)
     returns-4
     (λ c κs. search needs)
