@@ -13,13 +13,13 @@ use Rattle.refusals.specs.Refusals.{numberOf}
 use Rattle.calls.proofs.Accepting.{accepted}
 use Rattle.part.specs.declared.Answer.{Answer}
 use Rattle.part.specs.Frame as part
-use Rattle.part.specs.Frame.{Call, Lent, Reply, Result, lengthsOf, numberFor, refused, replyOf}
+use Rattle.part.specs.Frame.{Call, Lent, Reply, Result, lengthsOf, numberFor, refused, turnedAway, replyOf}
 use Rattle.part.proofs.Answers as answers
 use Rattle.part.proofs.Answers.{refusal-is}
 use Rattle.ledger.specs.Ledger.{Ledger, anyAbove, shut, booked}
 use Rattle.ledger_frame.specs.declared.Booked.{Booked}
 use Rattle.ledger_frame.specs.Frame as through
-use Rattle.ledger_frame.specs.Frame.{shutOut, afterOthers, replied, frame, Meets}
+use Rattle.ledger_frame.specs.Frame.{shutOut, replied, frame, Meets}
 
 -- what is known of a ledger that is not shut
 pub open-to : (account : ℕ) (l : Ledger) → shut account l ≡ false
@@ -42,7 +42,7 @@ short c m n a e z =
 
 -- shut: the call is refused, and all is as it was
 pub shut-frame : (c : Call) (m : Lent) (account : ℕ) (l : Ledger) (r : Reply) → shut account l ≡ true
-    → r ≡ refused (afterOthers (numberFor c (lengthsOf c m))) (c .device) → Meets c m account l r m l
+    → r ≡ turnedAway 9 c m → Meets c m account l r m l
 unfolding frame replied booked part.frame part.replied
 shut-frame c m account l r e p = by (ℕ-discrete (numberFor c (lengthsOf c m)) 0)
   where

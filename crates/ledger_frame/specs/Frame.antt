@@ -14,10 +14,6 @@ use Rattle.ledger.specs.Ledger.{Ledger, shut, booked}
 abbrev pub shutOut : Call → Lengths → ℕ → Ledger → Bool
 shutOut c lengths account l = eqb (numberFor c lengths) 0 && shut account l
 
--- the number of a call to which the ledger is shut
-abbrev pub afterOthers : ℕ → ℕ
-afterOthers number = cond (eqb number 0) (numberOf Refusal.Account) number
-
 -- what comes back
 unfoldable pub replied : Call → Lengths → ℕ → Ledger → Reply
 replied c lengths account l = cond (shutOut c lengths account l) (refused (numberOf Refusal.Account) (c .device)) (part.replied c lengths)

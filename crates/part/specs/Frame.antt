@@ -114,6 +114,10 @@ answered j covered =
 abbrev pub refused : ℕ → Device → Reply
 refused number d = record { refusal = number; outcome = "nothing"; first = 0; driven = 0; covered = nowhere; device = d }
 
+-- from a call that somebody above the part turns away, for a refusal of their own: the part's comes first
+abbrev pub turnedAway : ℕ → Call → Lent → Reply
+turnedAway number c m = refused (cond (eqb (numberFor c (lengthsOf c m)) 0) number (numberFor c (lengthsOf c m))) (c .device)
+
 -- what comes back: of the memories only the lengths bear on it
 unfoldable pub replied : Call → Lengths → Reply
 replied c lengths =

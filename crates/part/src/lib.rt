@@ -17,6 +17,7 @@ use refusals::Refusal;
 use settings::Settings;
 ghost use mathlib.Core.Path.{_≡_};
 ghost use Prim.Native.Nat.{_*_, _≤_};
+ghost use Rattle.refusals.specs.Refusals.{numberOf};
 ghost use Rattle.calls.specs.Refusal.{bytesFor};
 ghost use Rattle.part.specs.Frame as spec;
 
@@ -66,6 +67,36 @@ pub fn refused(refusal: Refusal, device: Device) -> Answer
         covered: nowhere(),
         device,
     }
+}
+
+// The answer of a call that somebody above the part turns away, for a refusal of their own: the part's comes first.
+pub fn turned_away<'a>(
+    refusal: Refusal,
+    device: Device,
+    settings: Settings,
+    array: &'a [u8],
+    register: &'a [u8],
+    input: &'a [u8],
+    signals: Signals,
+    output: &'a [u8],
+) -> Answer
+    ensures { λ r. ⌜
+        spec.replyOf r ≡
+        spec.turnedAway (numberOf refusal) (spec.call device settings (now (input .entry)) signals)
+        (spec.lent (now (array .entry)) (now (register .entry)) (now (output .entry)))
+        ⌝ }
+{
+    let lengths = Lengths {
+        array: array.len(),
+        register: register.len(),
+        input: input.len(),
+        output: output.len(),
+    };
+    let own = refusal_of(device, settings, signals, lengths);
+    if own.number() == 0 {
+        return refused(refusal, device);
+    }
+    refused(own, device)
 }
 
 // An accepted call: time passes up to the frame's first bit and on to its rise, the frame is judged, the output shows what the part drives,

@@ -1,7 +1,7 @@
 -- `ledger_frame::frame_for` meets its contract. Assumes nothing.
 use mathlib.Core.Path.{sym, _∙_}
 use borrow.Author.Needs.{needs}
-use Rattle.part.specs.Frame.{Call, Lent, call, lent, numberFor}
+use Rattle.part.specs.Frame.{Call, Lent, call, lent}
 use Rattle.ledger.specs.Ledger.{Ledger, ledger}
 use Rattle.ledger_frame.proofs.Frames.{open-to, short, shut-frame, open-frame}
 use Rattle.ledger_frame.proofs.frame_for.Statement.{statement}
@@ -17,11 +17,10 @@ abbrev ledgerAt : tie.Start → Ledger
 ledgerAt a = ledger (a .args .totals .now) (a .args .most .now) (a .args .numbers .now) (a .args .running)
 
 returns : tie.Need-returns
-unfolding numberFor
 returns c =
-    let tested = c .before in
+    let tested = c .before .before .before .before in
     let a = tested .before .before .before .before .before .before .before .before in
-    shut-frame (callAt a) (lentAt a) (a .args .account) (ledgerAt a) _ (sym (tested .before .is-shut .ensures) ∙ tested .if1 .taken) (c .shut-out .ensures)
+    shut-frame (callAt a) (lentAt a) (a .args .account) (ledgerAt a) _ (sym (tested .before .is-shut .ensures) ∙ tested .if1 .taken) (c .turned-away .ensures)
 
 book-requires : tie.Need-book-requires
 book-requires c κs =
@@ -46,6 +45,9 @@ frame-for-spec =
     (tie.spec
     (λ c κs. search needs)
     (λ c κs. search needs)
+    (λ c. search needs)
+    (λ c. search needs)
+    (λ c. search needs)
     returns
     (λ c κs. search needs)
     book-requires
