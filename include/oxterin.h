@@ -13,15 +13,15 @@
  *
  * Nothing is kept between calls but what you hand in again: the record, the array, the security register and, if there is one, the ledger.
  * Calls on different parts may run at the same time, if each has a ledger of its own or none. Memories that are written (record, array,
- * register, output, text, answer, ledger, line, characters, place) must not overlap anything else that the same call is handed. A null
- * array, register, input, output or text counts as one of length 0; record, settings, answer, ledger, line, characters and place are never
- * null.
+ * register, output, text, answer, ledger, month, line, characters, place) must not overlap anything else that the same call is handed. A
+ * null array, register, input, output or text counts as one of length 0; record, settings, answer, ledger, month, line, characters and
+ * place are never null.
  *
  * Time passes only in ticks that a call brings: those elapsed before its frame, and those that each byte position of the frame takes. Who
  * fills oxterin_signals field by field sets ticks_per_byte too: 0 is a frame that takes no time.
  *
  * Where several accounts share a part, oxterin_send_frame_for and a ledger bill an operation's busy ticks to the account that began it, no
- * matter who polls.
+ * matter who polls. At a month's end oxterin_close_month hands the ledger out, and it goes on with empty tables.
  *
  * C11 or C++17; needs nothing but this file and the library.
  */
@@ -37,7 +37,7 @@ extern "C" {
 #endif
 
 /* The version of this header; oxterin_version() is the library's. A million for the first number, a thousand for the second. */
-#define OXTERIN_VERSION 1003000
+#define OXTERIN_VERSION 1004000
 
 /* Lengths in bytes. */
 #define OXTERIN_ARRAY 131072u      /* the AT25XE011's own array */
@@ -94,7 +94,7 @@ typedef struct {
 /* The running operation: whose it is, and what it was billed so far. */
 typedef struct {
     uint64_t account; /* the one whose frame began it; any number over 255 is nobody */
-    uint64_t billed;  /* ticks billed for it so far */
+    uint64_t billed;  /* ticks billed for it so far, since the last close */
 } oxterin_running;
 
 /* A ledger: what each account was billed, and the running operation.
@@ -186,6 +186,8 @@ uint64_t oxterin_ledger_frame(uint64_t *record, size_t record_length, const uint
                               size_t security_length, const uint8_t *input, size_t input_length, uint8_t *output, size_t output_length,
                               uint64_t *answer, size_t answer_length, uint64_t account, uint64_t *running, size_t running_length,
                               uint64_t *totals, uint64_t *most, uint64_t *numbers);
+uint64_t oxterin_close(uint64_t *running, size_t running_length, uint64_t *totals, uint64_t *most, uint64_t *numbers,
+                       uint64_t *old_totals, uint64_t *old_most, uint64_t *old_numbers);
 uint64_t oxterin_report(const uint64_t *totals, const uint64_t *most, const uint64_t *numbers, uint64_t account, uint64_t *line,
                         size_t line_length);
 uint64_t oxterin_hex_write(const uint8_t *array, size_t array_length, uint8_t *text, size_t text_length, uint64_t *characters,
@@ -378,6 +380,21 @@ static inline oxterin_refusal oxterin_send_frame_for(uint64_t account, oxterin_l
     ledger->running.account = running[0];
     ledger->running.billed = running[1];
     return oxterin_take_answer(number, device, told, record, answer);
+}
+
+/* Closes a month: `month` becomes the ledger as it was, and then the ledger's tables are empty. The operation that runs stays its account's:
+ * its ticks so far and its number are the old month's, its further ticks the new one's, whose `most` counts these alone. Every ledger is
+ * accepted, also one that is full. */
+static inline oxterin_refusal oxterin_close_month(oxterin_ledger *ledger, oxterin_ledger *month) {
+    uint64_t running[2];
+    uint64_t number;
+    month->running = ledger->running;
+    running[0] = ledger->running.account;
+    running[1] = ledger->running.billed;
+    number = oxterin_close(running, 2, ledger->totals, ledger->most, ledger->numbers, month->totals, month->most, month->numbers);
+    ledger->running.account = running[0];
+    ledger->running.billed = running[1];
+    return (oxterin_refusal)number;
 }
 
 /* An account's line of a ledger; all 0 if the account is over 255, which is refused. */

@@ -307,6 +307,61 @@ static void ledger_words(void) {
     CHECK(words[0] == 4 && words[1] == 5 && words[2] == 0 && words[3] == 77);
 }
 
+/* A month's close: what runs is billed in both months, and a full ledger can be closed. */
+static void months(void) {
+    const uint8_t enable[] = {0x06};
+    const uint8_t erase[] = {0x20, 0x00, 0x00, 0x00};
+    const uint8_t poll[] = {0x05, 0x00};
+    static oxterin_ledger month, before;
+    size_t account;
+    start();
+    CHECK(send_for(255, enable, 1, 0, 0) == OXTERIN_ACCEPTED && send_for(255, erase, 4, 0, 0) == OXTERIN_ACCEPTED);
+    CHECK(send_for(0, poll, 2, 20000, 0) == OXTERIN_ACCEPTED && runs_for(255, 20000) && line_of(255, 20000, 20000, 1));
+    before = ledger;
+    CHECK(oxterin_close_month(&ledger, &month) == OXTERIN_ACCEPTED && memcmp(&month, &before, sizeof month) == 0);
+    CHECK(runs_for(255, 0) && line_of(255, 0, 0, 0) && record.busy == 30000);
+    CHECK(send_for(0, poll, 2, 60000, 0) == OXTERIN_ACCEPTED && runs_for(OXTERIN_NOBODY, 0) && line_of(255, 30000, 30000, 0));
+    for (account = 0; account < OXTERIN_ACCOUNTS; account++) {
+        ledger.totals[account] = UINT64_MAX - account;
+        ledger.most[account] = account + 1;
+        ledger.numbers[account] = OXTERIN_BILL_LIMIT + 1 + account;
+    }
+    ledger.running.account = UINT64_MAX;
+    ledger.running.billed = 7;
+    before = ledger;
+    CHECK(oxterin_close_month(&ledger, &month) == OXTERIN_ACCEPTED && memcmp(&month, &before, sizeof month) == 0);
+    CHECK(runs_for(UINT64_MAX, 0));
+    for (account = 0; account < OXTERIN_ACCOUNTS; account++) {
+        CHECK(line_of(account, 0, 0, 0));
+    }
+}
+
+/* Whether closing by the function on words, handed so many words of the running part, is refused and changes nothing. */
+static bool close_unread(uint64_t *running, size_t words) {
+    static oxterin_ledger month, old, before;
+    size_t account;
+    for (account = 0; account < OXTERIN_ACCOUNTS; account++) {
+        month.totals[account] = month.most[account] = month.numbers[account] = 5;
+    }
+    old = month;
+    before = ledger;
+    return oxterin_close(running, words, ledger.totals, ledger.most, ledger.numbers, month.totals, month.most, month.numbers) ==
+               OXTERIN_UNREAD &&
+           memcmp(&ledger, &before, sizeof ledger) == 0 && memcmp(&month, &old, sizeof month) == 0 && running[0] == 255 &&
+           running[1] == 9 && running[2] == 78;
+}
+
+/* A month is closed only with the two words of a running part. */
+static void month_words(void) {
+    uint64_t running[3] = {255, 9, 78};
+    static oxterin_ledger month;
+    start();
+    ledger.totals[255] = 9;
+    CHECK(close_unread(running, 0) && close_unread(running, 1) && close_unread(running, 3));
+    CHECK(oxterin_close(running, 2, ledger.totals, ledger.most, ledger.numbers, month.totals, month.most, month.numbers) == 0);
+    CHECK(running[0] == 255 && running[1] == 0 && running[2] == 78 && month.totals[255] == 9 && line_of(255, 0, 0, 0));
+}
+
 /* Whether all of so many bytes are this one. */
 static bool all(const uint8_t *bytes, size_t length, uint8_t byte) {
     size_t k = 0;
@@ -432,6 +487,8 @@ int main(void) {
     busy_time_is_billed_to_who_began_it();
     ledger_refusals();
     ledger_words();
+    months();
+    month_words();
     hex_written();
     hex_read();
     hex_refusals();

@@ -22,6 +22,7 @@ use Rattle.face_words.proofs.Records.{lent-whole, written-whole, record-whole, 
 use Rattle.face_frame.specs.Words.{Handed, callOf}
 use Rattle.face_frame.proofs.Words.{record-read, enough}
 use Rattle.face_ledger.specs.Words.{Ticket, LeftFor, isRunning, runningOf, runningWords, ledgerOf, isCallFor, told, unread, faced, isReport, reportNumber, reportWords}
+use Rattle.face_ledger.specs.Words.{Tables, closedWith, closing}
 use Rattle.face_ledger.proofs.Words.{stands}
 
 read : (h : Handed) (k : Ticket) (m : Lent) → isCallFor h k ≡ true → faced h k m ≡ told h k (frame (callOf h) m (k .account) (ledgerOf k))
@@ -88,6 +89,22 @@ bill-back h k m r =
     let running-all : asLent (k .running) (runningWords on) ≡ runningWords on
     = written-whole (k .running) (runningWords on) (sym (lent-whole 2 (length (k .running)) (right .1))) in
     rw (read h k m r, record-all, running-all) (is-record d, same-record d, refl, refl)
+
+pub close-unread : (running : List ℕ) (now old : Tables)
+    → (isRunning running ≡ false → closing running now old ≡ closedWith 255 running now old)
+    × (closing running now old .number ≡ 255 → isRunning running ≡ false)
+unfolding closing
+close-unread running now old = (left, λ e. by (isRunning running) refl e)
+  where
+    left : isRunning running ≡ false → closing running now old ≡ closedWith 255 running now old
+    left r = rw r
+
+    accepted : isRunning running ≡ true → closing running now old .number ≡ 0
+    accepted r = rw r
+
+    by : (b : Bool) → isRunning running ≡ b → closing running now old .number ≡ 255 → isRunning running ≡ false
+    by true r e = absurd (omega (arith, accepted r))
+    by false r e = r
 
 pub report-kept : (r : Reported) (line : List ℕ) → reportNumber r line ≢ 0 → reportWords r line ≡ line
 report-kept r line n = by (ℕ-discrete (numberOf (r .refusal)) 0) (isReport (length line)) n

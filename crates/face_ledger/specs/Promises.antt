@@ -10,7 +10,7 @@ use Rattle.face_frame.specs.Words.{Handed, callOf}
 use Rattle.ledger_frame.specs.Frame.{frame}
 use Rattle.ledger.specs.declared.Reported.{Reported}
 use Rattle.ledger.specs.declared.Running.{Running}
-use Rattle.face_ledger.specs.Words.{Ticket, isRunning, runningOf, runningWords, ledgerOf, isCallFor, unread, faced, reportNumber, reportWords}
+use Rattle.face_ledger.specs.Words.{Ticket, Tables, closedWith, closing, isRunning, runningOf, runningWords, ledgerOf, isCallFor, unread, faced, reportNumber, reportWords}
 
 pub record Promises : Type 0 where
   -- a frame through the ledger is answered with 255 exactly if its words stand for nothing, and then everything is as it was
@@ -24,6 +24,10 @@ pub record Promises : Type 0 where
   pub bill-back : (h : Handed) (k : Ticket) (m : Lent) → isCallFor h k ≡ true
       → (isRecord (faced h k m .frame .device) ≡ true) × (deviceOf (faced h k m .frame .device) ≡ frame (callOf h) m (k .account) (ledgerOf k) .reply .device)
       × (isRunning (faced h k m .running) ≡ true) × (runningOf (faced h k m .running) ≡ frame (callOf h) m (k .account) (ledgerOf k) .ledger .running)
+  -- a month's close is answered with 255 exactly if the running operation's words stand for nothing, and then everything is as it was
+  pub close-unread : (running : List ℕ) (now old : Tables)
+      → (isRunning running ≡ false → closing running now old ≡ closedWith 255 running now old)
+      × (closing running now old .number ≡ 255 → isRunning running ≡ false)
   -- a report that is refused writes nothing
   pub report-kept : (r : Reported) (line : List ℕ) → reportNumber r line ≢ 0 → reportWords r line ≡ line
   -- the running operation that comes back as words is the one that goes in with them

@@ -9,7 +9,7 @@ use Rattle.refusals.specs.Refusals.{numberOf}
 use Rattle.part.specs.Frame.{Lent}
 use Rattle.ledger.specs.declared.Reported.{Reported}
 use Rattle.ledger.specs.declared.Running.{Running}
-use Rattle.ledger.specs.Ledger.{Ledger, ledger, runs}
+use Rattle.ledger.specs.Ledger.{Ledger, ledger, runs, closed}
 use Rattle.ledger_frame.specs.Frame.{Result, frame}
 use Rattle.face_words.specs.Words.{isLent, asLent, writtenIf}
 use Rattle.face_frame.specs.Words as plain
@@ -66,6 +66,35 @@ unread h k m = leftFor (plain.unread h m) (k .running) (k .totals) (k .most) (k 
 
 unfoldable pub faced : Handed → Ticket → Lent → LeftFor
 faced h k m = cond (isCallFor h k) (told h k (frame (callOf h) m (k .account) (ledgerOf k))) (unread h k m)
+
+-- the three tables of a ledger
+pub record Tables : Type 0 where
+  pub totals : List ℕ
+  pub most : List ℕ
+  pub numbers : List ℕ
+
+abbrev pub tables : List ℕ → List ℕ → List ℕ → Tables
+tables totals most numbers = record { totals = totals; most = most; numbers = numbers }
+
+abbrev pub tablesOf : Ledger → Tables
+tablesOf l = tables (l .totals) (l .most) (l .numbers)
+
+-- what the close of a month leaves: its number, the running operation's words, the tables, and those that were handed out
+pub record Closed : Type 0 where
+  pub number : ℕ
+  pub running : List ℕ
+  pub tables : Tables
+  pub old : Tables
+
+abbrev pub closedWith : ℕ → List ℕ → Tables → Tables → Closed
+closedWith number running tables old = record { number = number; running = running; tables = tables; old = old }
+
+-- 255 if the running operation's words stand for nothing, and then all is as it was
+unfoldable pub closing : List ℕ → Tables → Tables → Closed
+closing running now old =
+    let after = closed (ledger (now .totals) (now .most) (now .numbers) (runningOf running)) in
+    cond (isRunning running) (closedWith 0 (asLent running (runningWords (after .running))) (tablesOf after) now)
+    (closedWith 255 running now old)
 
 -- the report, three words: its number, 255 if not as many are lent; they are written if it is 0
 abbrev pub isReport : ℕ → Bool

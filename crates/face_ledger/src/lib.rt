@@ -159,6 +159,41 @@ pub extern "C" fn oxterin_ledger_frame(
     UNREAD
 }
 
+// Closes a month: the three tables are handed out and then empty, and the operation that runs stays its account's, billed nothing so far.
+#[no_mangle]
+pub extern "C" fn oxterin_close(
+    running: &mut [u64],
+    totals: &mut [u64; 256],
+    most: &mut [u64; 256],
+    numbers: &mut [u64; 256],
+    old_totals: &mut [u64; 256],
+    old_most: &mut [u64; 256],
+    old_numbers: &mut [u64; 256],
+) -> u64
+    ensures { λ r. ⌜
+        words.closedWith r (now (running .exit)) (words.tables (now (totals .exit)) (now (most .exit)) (now (numbers .exit)))
+        (words.tables (now («old_totals» .exit)) (now («old_most» .exit)) (now («old_numbers» .exit))) ≡
+        words.closing (now (running .entry)) (words.tables (now (totals .entry)) (now (most .entry)) (now (numbers .entry)))
+        (words.tables (now («old_totals» .entry)) (now («old_most» .entry)) (now («old_numbers» .entry)))
+        ⌝ }
+{
+    if is_lent(RUNNING, RUNNING, running.len()) {
+        let before = running_of(running);
+        let stays = ledger::close(
+            before,
+            totals,
+            most,
+            numbers,
+            old_totals,
+            old_most,
+            old_numbers,
+        );
+        put_running(stays, running);
+        return 0;
+    }
+    UNREAD
+}
+
 // The report on an account, three words: its total, the most ticks billed for one of its operations, and the number of its operations.
 #[no_mangle]
 pub extern "C" fn oxterin_report<'a>(

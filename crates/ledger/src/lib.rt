@@ -10,6 +10,7 @@ ghost use mathlib.Core.Bool.{false, not, _||_};
 ghost use mathlib.Core.Path.{_≡_};
 ghost use Prim.Native.Nat.{suc, _+_, _*_, _<_, _≤_, min, max};
 ghost use lib.Dec.{eqb};
+ghost use lib.ListN.{replicate};
 ghost use lib.Text.{eqt};
 ghost use Rattle.refusals.specs.Refusals.{numberOf};
 ghost use Rattle.part.specs.Words.{wordOf};
@@ -230,6 +231,42 @@ pub fn book(
         most,
         numbers,
     )
+}
+
+// A table is handed out, and empty afterwards.
+fn hand_out(table: &mut [u64; 256], out: &mut [u64; 256])
+    ensures { λ _. ⌜ now (table .exit) ≡ replicate 256 0 ⌝ }
+    ensures { λ _. ⌜ now (out .exit) ≡ now (table .entry) ⌝ }
+{
+    *out = *table;
+    *table = [0; 256];
+}
+
+// Closes a month: the tables are handed out and then empty. The operation that runs stays its account's, and its next ticks are the first
+// that it is billed in the new month.
+pub fn close(
+    mut running: Running,
+    totals: &mut [u64; 256],
+    most: &mut [u64; 256],
+    numbers: &mut [u64; 256],
+    old_totals: &mut [u64; 256],
+    old_most: &mut [u64; 256],
+    old_numbers: &mut [u64; 256],
+) -> Running
+    ensures { λ r. ⌜
+        spec.ledger (now (totals .exit)) (now (most .exit)) (now (numbers .exit)) r ≡
+        spec.closed (spec.ledger (now (totals .entry)) (now (most .entry)) (now (numbers .entry)) running)
+        ⌝ }
+    ensures { λ _. ⌜
+        (now («old_totals» .exit) ≡ now (totals .entry)) × (now («old_most» .exit) ≡ now (most .entry)) ×
+        (now («old_numbers» .exit) ≡ now (numbers .entry))
+        ⌝ }
+{
+    hand_out(totals, old_totals);
+    hand_out(most, old_most);
+    hand_out(numbers, old_numbers);
+    running.billed = 0;
+    running
 }
 
 // The report on an account; one over 255 is refused, and has nothing.

@@ -41,9 +41,9 @@ bill has a row for each account that began an operation or was billed, with a ba
 Options:
 {PART_HELP}{STATE_HELP}{UNSAID_HELP}  --close             closes a month: the bill is written, then the books of --state are emptied and saved. The state
                       as it was stays beside it, as FILE.closed-TICK. An operation that is running stays its
-                      account's: what it is billed from then on is in the new books, and their most for one operation
-                      counts all of its ticks. If the bill cannot be written, the books stay as they were. A server
-                      that uses the state has to be ended first
+                      account's: its ticks before the close and its number are in the old bill, its ticks after it in
+                      the new one, whose most for one operation counts these alone. If the bill cannot be written, the
+                      books stay as they were. A server that uses the state has to be ended first
   --csv               comma-separated values in place of the table, with the heads account,total,most,operations
   --html OUT          beside the table or --csv, the bill as a page for a browser goes to OUT, whole: a line for each
                       operation, with its frame, what it was billed, and who sent frames while it ran
@@ -118,7 +118,7 @@ fn hand_out(tally: &Tally, name: &str, given: &Given, page_file: Option<Held>) -
     }
 }
 
-/// Empties the books and saves them, having kept a copy of what they were.
+/// Closes the month in the books and saves them, having kept a copy of what they were.
 fn close(mut desk: Desk, mut held: Held) -> Result<(), Complaint> {
     state::keep_closed(held.path(), &desk)?;
     desk.close();

@@ -133,12 +133,9 @@ impl Desk {
         })
     }
 
-    /// Empties the tables. What is running goes on, and what it was billed so far still counts for the most of one operation.
+    /// Closes a month: empties the tables. What is running stays its account's, billed nothing so far.
     pub fn close(&mut self) {
-        self.ledger = Ledger {
-            running: self.ledger.running,
-            ..Ledger::empty()
-        };
+        self.ledger.close();
         self.opened = self.tick;
         self.frames = 0;
     }

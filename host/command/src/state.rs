@@ -415,8 +415,9 @@ mod tests {
         again.close();
         assert_eq!(again.ledger.totals, [0; 256]);
         assert_eq!(
-            (again.ledger.running, again.opened, again.frames),
-            (full.ledger.running, full.tick, 0)
+            (again.ledger.running.account, again.ledger.running.billed),
+            (full.ledger.running.account, 0)
         );
+        assert_eq!((again.opened, again.frames), (full.tick, 0));
     }
 }

@@ -30,7 +30,7 @@ pub struct Operation {
     pub first: Vec<u8>,
     /// How many bytes the frame has.
     pub length: usize,
-    /// How many ticks it takes.
+    /// How many ticks it takes; if a month was closed while it ran, those since then.
     pub duration: u64,
     /// How many of them were billed.
     pub billed: u64,

@@ -232,9 +232,9 @@ impl Twin {
         format!("{HEADS}{}", rows.collect::<String>())
     }
 
-    /// Empties its books; what is running goes on.
+    /// Closes a month in its books; what is running goes on.
     fn close(&mut self) {
-        self.books = Books::open(Tables::empty(), self.books.running(), &self.record);
+        self.books.close();
     }
 }
 
@@ -677,8 +677,8 @@ fn the_json_log_has_the_same_frames_with_output_and_ticks_billed() {
 /// A chip erase of 1,000,000 ticks is account 20's. The first server is stopped with 250,000 of them billed and 50,000 passed since the last
 /// frame. These are billed on the way out, and 700,000 more at the second server. There account 31 programs two bytes:
 /// 1,999 of 2,000 ticks, and the last with `run`, where account 7 begins a 4-KiB erase of 50,000 ticks: 10 pass, and 100 with `bill`. The
-/// month is closed. In the new one 1,000 ticks pass with `bill`, which make 1,110 for one operation, and the other 48,890 at a third server:
-/// 49,890 in all, and 50,000 for one operation that began in the old month. Account 31's byte takes 12.
+/// month is closed. In the new one 1,000 ticks pass with `bill`, and the other 48,890 at a third server: 49,890 in all for an operation that is
+/// one of the old month's. Account 31's byte takes 12.
 #[test]
 fn books_go_on_from_server_to_server_and_are_closed_for_a_month() {
     let folder = folder("months");
@@ -746,12 +746,12 @@ fn books_go_on_from_server_to_server_and_are_closed_for_a_month() {
     twin.close();
     let shown = says(&["state", word(&state)]);
     assert!(
-        shown.contains("49,890 ticks left of an operation of account 7, billed so far for 110\n"),
+        shown.contains("49,890 ticks left of an operation of account 7, billed so far for 0\n"),
         "{shown}"
     );
     fs::write(&later, "05 00 +1000 account=3\n").expect("written");
     frames(&text(&later)).iter().for_each(|line| drop(twin.take(line)));
-    let wanted = format!("{HEADS}7,1000,1110,0\n");
+    let wanted = format!("{HEADS}7,1000,1000,0\n");
     assert_eq!(says(&["bill", word(&later), "--state", word(&state), "--csv"]), wanted);
     assert_eq!((of_books(&state), twin.bill()), (wanted.clone(), wanted));
 
@@ -766,7 +766,7 @@ fn books_go_on_from_server_to_server_and_are_closed_for_a_month() {
     client.frame(&[0x03, 0x00, 0x10, 0x00], &[0x5A, 0xFF]);
     assert!(third.ends_when_asked());
     twin.follow(&frames(&text(&log))[both.len()..]);
-    let wanted = format!("{HEADS}7,49890,50000,0\n31,12,12,1\n");
+    let wanted = format!("{HEADS}7,49890,49890,0\n31,12,12,1\n");
     assert_eq!((of_books(&state), twin.bill()), (wanted.clone(), wanted));
 }
 

@@ -129,12 +129,45 @@ fn a_month_is_closed_and_what_runs_goes_on() {
     assert_eq!(bill(&[], ""), heads);
     assert_eq!(billed(&state.with_file_name("bench.closed-20000")), "7,20000,20000,1\n");
     assert_eq!(bill(&["--close"], ""), heads);
-    assert_eq!(bill(&["-"], "05 00 account=12 +60000\n"), format!("{heads}7,30000,50000,0\n"));
+    assert_eq!(bill(&["-"], "05 00 account=12 +60000\n"), format!("{heads}7,30000,30000,0\n"));
     let shown = says(&["state", word(&state)], "");
     assert!(
         shown.contains("\ntime        80,000 ticks passed\nbooks       since tick 20,000, 1 frame\n"),
         "{shown}"
     );
+}
+
+/// `bill FILE --state S`, then `bill --state S --close`, then `bill NEXT --state S`. In the first month account 7 programs a page, 2,000 ticks,
+/// and begins a 4-KiB erase, of which 20,000 of 50,000 pass. In the second the other 30,000 do, and account 12 erases a page, 7,000, and
+/// programs a byte, 12.
+#[test]
+fn bills_of_files_go_on_from_month_to_month() {
+    let state = fresh("months", &[]);
+    let [october, november] = ["october", "november"].map(|name| state.with_file_name(name));
+    fs::write(
+        &october,
+        "06 account=7\n02 00 00 00 11 22 account=7\n05 00 account=12 +2000\n06 account=7\n20 00 10 00 account=7\n05 00 +20000\n",
+    )
+    .expect("frames");
+    fs::write(
+        &november,
+        "05 00 account=12 +30000\n06 account=12\n81 00 10 00 account=12\n06 account=12 +7000\n02 00 10 00 33 account=12\n05 00 +12\n",
+    )
+    .expect("frames");
+    let heads = "account,total,most,operations\n";
+    let bill = |words: &[&str]| says(&[&["bill", "--csv", "--state", word(&state)], words].concat(), "");
+    assert_eq!(bill(&[word(&october)]), format!("{heads}7,22000,20000,2\n"));
+    assert_eq!(bill(&["--close"]), format!("{heads}7,22000,20000,2\n"));
+    assert_eq!(bill(&[]), heads);
+    let shown = says(&["state", word(&state)], "");
+    assert!(
+        shown.contains("\nbusy        30,000 ticks left of an operation of account 7, billed so far for 0\n"),
+        "{shown}"
+    );
+    let second = format!("{heads}7,30000,30000,0\n12,7012,7000,2\n");
+    assert_eq!(bill(&[word(&november)]), second);
+    assert_eq!(bill(&["--close"]), second);
+    assert_eq!(bill(&["--close"]), heads);
 }
 
 /// How a call ends whose words nobody gets, since they go to a device that is full.

@@ -44,6 +44,8 @@ pub struct Call {
     pub account: Option<u64>,
     /// The ledger handed over, if it is not the one that the calls before left.
     pub ledger: Option<Box<Ledger>>,
+    /// Whether a month is closed before it, in that ledger.
+    pub close: bool,
 }
 
 impl Call {
@@ -63,6 +65,7 @@ impl Call {
             record: None,
             account: None,
             ledger: None,
+            close: false,
         }
     }
 

@@ -60,6 +60,7 @@ fn plain_fields(calls: &mut [Call], place: usize, fails: &impl Fn(&[Call]) -> bo
     keep(calls, place, fails, |call| call.record = None);
     keep(calls, place, fails, |call| call.account = None);
     keep(calls, place, fails, |call| call.ledger = None);
+    keep(calls, place, fails, |call| call.close = false);
     keep(calls, place, fails, |call| call.array = usual.array);
     keep(calls, place, fails, |call| call.register = usual.register);
     keep(calls, place, fails, |call| call.output = usual.output);

@@ -2,7 +2,7 @@
 use crate::call::{Call, ARRAY_ROOM, GUARD, OUTPUT_ROOM, REGISTER_ROOM};
 use crate::ledger::Kept;
 use crate::reply::{word, words_of, Reply};
-use oxterin::{raw, Record, Settings, Signals};
+use oxterin::{raw, Ledger, Record, Settings, Signals};
 use std::panic::{catch_unwind, AssertUnwindSafe};
 
 /// What an output buffer holds before a call: it tells places apart, and is never FFh, which an undriven position reads.
@@ -67,12 +67,17 @@ pub(crate) struct Lent<'a> {
 /// How a side carries a call out.
 pub(crate) type Run = fn(&Call, &Record, Lent<'_>) -> Reply;
 
+/// How a side closes a month in its ledger, the record being this.
+pub(crate) type Close = fn(&Record, &mut Kept);
+
 /// One side with what it works on.
 pub(crate) struct Side {
     /// What a difference calls it.
     pub(crate) name: &'static str,
     /// How it carries a call out.
     pub(crate) run: Run,
+    /// How it closes a month.
+    pub(crate) close: Close,
     /// Its own memories.
     pub(crate) memories: Memories,
     /// Its output buffer after the last call, with a guard.
@@ -83,10 +88,11 @@ pub(crate) struct Side {
 
 impl Side {
     /// A side that has not run yet.
-    pub(crate) fn new(name: &'static str, run: Run) -> Side {
+    pub(crate) fn new(name: &'static str, run: Run, close: Close) -> Side {
         Side {
             name,
             run,
+            close,
             memories: Memories::patterned(),
             output: Vec::with_capacity(CANARY.len()),
             ledger: Kept::empty(),
@@ -105,6 +111,12 @@ impl Side {
         };
         let run = self.run;
         catch_unwind(AssertUnwindSafe(|| run(call, record, lent))).ok()
+    }
+
+    /// Closes a month. None if the side panicked.
+    pub(crate) fn closed(&mut self, record: &Record) -> Option<()> {
+        let (close, ledger) = (self.close, &mut self.ledger);
+        catch_unwind(AssertUnwindSafe(|| close(record, ledger))).ok()
     }
 }
 
@@ -150,6 +162,21 @@ pub(crate) fn by_words(call: &Call, record: &Record, lent: Lent<'_>) -> Reply {
     }
 }
 
+/// A month closed by the proved face, by words.
+pub(crate) fn close_by_words(_: &Record, ledger: &mut Kept) {
+    let [totals, most, numbers] = &mut ledger.month;
+    let number = raw::close(
+        &mut ledger.running.words,
+        &mut ledger.totals.words,
+        &mut ledger.most.words,
+        &mut ledger.numbers.words,
+        &mut totals.words,
+        &mut most.words,
+        &mut numbers.words,
+    );
+    assert_eq!(number, 0, "every running part of two words is accepted");
+}
+
 /// The proved part, through the safe wrapper.
 pub(crate) fn by_wrapper(call: &Call, record: &Record, lent: Lent<'_>) -> Reply {
     let mut after = *record;
@@ -186,6 +213,14 @@ pub(crate) fn by_wrapper(call: &Call, record: &Record, lent: Lent<'_>) -> Reply 
             record: words_of(&after),
         },
     }
+}
+
+/// A month closed through the safe wrapper.
+pub(crate) fn close_by_wrapper(_: &Record, ledger: &mut Kept) {
+    let before = ledger.ledger();
+    let month = ledger.in_wrapper(Ledger::close);
+    assert_eq!(month.running, before.running, "what ran is handed out as it was");
+    ledger.hand_out([month.totals, month.most, month.numbers]);
 }
 
 /// The wrapper's settings, named one by one without its help.
@@ -234,6 +269,12 @@ pub(crate) fn by_model(call: &Call, record: &Record, lent: Lent<'_>) -> Reply {
         driven: answer.driven as u64,
         record: model_words(&answer.record),
     }
+}
+
+/// A month closed by the model.
+pub(crate) fn close_by_model(record: &Record, ledger: &mut Kept) {
+    let model::Tables { totals, most, numbers } = ledger.in_books(&model_record(record), model::Books::close);
+    ledger.hand_out([totals, most, numbers]);
 }
 
 /// The word for one of the model's outcomes.

@@ -9,12 +9,13 @@
 //! 05 00*4 ticks-per-byte=8
 //! - array=65536 register=127 output=0 record=0,0,1,0,0,0,5 durations=12,2000,7000,50000,400000,1600000,400,20000
 //! 05 00*2 account=3 running=7,12 totals=7:12,9:2000 most=7:12,9:2000 numbers=7:1,9:1
+//! 05 00*2 account=3 close=1
 //! ```
 //!
 //! `22*3` stands for `22 22 22`. The record's words are BPL, BP0, WEL, RSTE, OTP used, the mode (0 awake, 1 deep, 2 ultra-deep) and the
 //! busy ticks. A call with an account goes through the ledger. One with any of the words `running`, `totals`, `most` and `numbers` hands a
-//! ledger over: whose operation runs and what it was billed, and what the accounts have that have anything. What is not said is as in
-//! [`Call::of`], and as in an empty ledger.
+//! ledger over: whose operation runs and what it was billed, and what the accounts have that have anything. With `close=1` a month is closed
+//! before the call. What is not said is as in [`Call::of`], and as in an empty ledger.
 use crate::call::{Call, ARRAY_ROOM, OUTPUT_ROOM, REGISTER_ROOM};
 use crate::reply::{record_of, words_of};
 use oxterin::{Ledger, Running};
@@ -72,6 +73,7 @@ fn line(call: &Call) -> String {
             say(table.iter().any(|&word| word != 0), format!("{name}={}", entries(table)));
         }
     }
+    say(call.close, "close=1".to_string());
     words.join(" ")
 }
 
@@ -149,6 +151,7 @@ fn read_field(call: &mut Call, field: &str) -> Result<(), String> {
         "totals" => read_entries(&mut handed(call).totals, value)?,
         "most" => read_entries(&mut handed(call).most, value)?,
         "numbers" => read_entries(&mut handed(call).numbers, value)?,
+        "close" => call.close = limited(value, 1)? == 1,
         _ => return Err(format!("{name} is no field")),
     }
     Ok(())
@@ -278,6 +281,7 @@ mod tests {
             "06 totals=256:1",
             "06 most=7",
             "06 numbers=7:-1",
+            "06 close=2",
             "06*66000",
         ] {
             assert!(read(line).is_err_and(|wrong| wrong.starts_with(line)), "{line}");

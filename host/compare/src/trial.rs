@@ -3,7 +3,8 @@ use crate::call::Call;
 use crate::difference::Difference;
 use crate::opcodes::CHANGES;
 use crate::reply::{record_of, Reply};
-use crate::side::{by_model, by_words, by_wrapper, Memories, Run, Side, CANARY};
+use crate::side::{by_model, by_words, by_wrapper, close_by_model, close_by_words, close_by_wrapper};
+use crate::side::{Close, Memories, Run, Side, CANARY};
 use oxterin::{Ledger, Mode, Record};
 
 /// How often the memories are compared whole.
@@ -41,13 +42,18 @@ impl Trial {
     /// A trial whose memories hold a pattern, whose record is fresh and whose ledger is empty.
     #[must_use]
     pub fn new(care: Care) -> Trial {
-        Trial::of([("the face", by_words), ("the wrapper", by_wrapper), ("the model", by_model)], care)
+        Trial::of(("the face", by_words, close_by_words), care)
     }
 
-    /// A trial of any sides, the last of which is the model.
-    fn of(sides: [(&'static str, Run); 3], care: Care) -> Trial {
+    /// A trial of this side, the wrapper and the model.
+    fn of(first: (&'static str, Run, Close), care: Care) -> Trial {
+        let sides = [
+            first,
+            ("the wrapper", by_wrapper, close_by_wrapper),
+            ("the model", by_model, close_by_model),
+        ];
         Trial {
-            sides: sides.map(|(name, run)| Side::new(name, run)),
+            sides: sides.map(|(name, run, close)| Side::new(name, run, close)),
             kept: Memories::patterned(),
             pattern: Memories::patterned(),
             record: Record::fresh(false, false, false),
@@ -87,6 +93,9 @@ impl Trial {
         }
         if let Some(ledger) = &call.ledger {
             self.put(ledger);
+        }
+        if call.close {
+            self.close(&before)?;
         }
         let replies = self.sides.each_mut().map(|side| side.answer(call, &before));
         let Some(reply) = replies[MODEL] else {
@@ -149,6 +158,20 @@ impl Trial {
             side.ledger.put(ledger);
         }
         self.ledger.clone_from(ledger);
+    }
+
+    /// Closes a month on every side. What is handed out has to be the ledger as it was, and what is left the model's.
+    fn close(&mut self, record: &Record) -> Result<(), Difference> {
+        for side in &mut self.sides {
+            side.closed(record).ok_or_else(|| Difference::panic(side.name))?;
+        }
+        let mut found = Difference::default();
+        for side in &self.sides {
+            side.ledger.compare_month(side.name, &self.ledger, &mut found);
+        }
+        self.ledger = self.sides[MODEL].ledger.ledger();
+        self.compare_ledgers(&mut found);
+        found.verdict()
     }
 
     /// The written bytes are the model's, and all others are as before the call.
@@ -263,7 +286,7 @@ mod tests {
 
     /// The same with these calls.
     fn first_difference_in(calls: &[Call], face: Run, care: Care) -> Option<usize> {
-        let mut trial = Trial::of([("a sham", face), ("the wrapper", by_wrapper), ("the model", by_model)], care);
+        let mut trial = Trial::of(("a sham", face, close_by_words), care);
         calls.iter().position(|call| trial.run(call).is_err())
     }
 
@@ -364,6 +387,44 @@ mod tests {
             reply
         };
         assert_eq!(first_difference_in_ledgers(the_rest_after_a_reset), Some(7));
+    }
+
+    /// Account 3 is billed 9 ticks of a program, and the month is closed before a poll in which 9 more pass.
+    #[test]
+    fn a_month_closed_wrongly_is_a_difference() {
+        let mut calls = calls_for_accounts();
+        let poll = calls[4].clone();
+        calls.splice(5.., [Call { close: true, ..poll }]);
+        let first_difference_with = |close: Close| {
+            let mut trial = Trial::of(("a sham", by_words, close), Care::WhenDue);
+            calls.iter().position(|call| trial.run(call).is_err())
+        };
+        assert_eq!(first_difference_with(close_by_words), None);
+        let shams: [Close; 6] = [
+            |_, _| (),
+            |_, _| panic!("a sham's panic"),
+            |record, ledger| {
+                let billed = ledger.running.words[1];
+                close_by_words(record, ledger);
+                ledger.running.words[1] = billed;
+            },
+            |record, ledger| {
+                let numbers = ledger.numbers.words;
+                close_by_words(record, ledger);
+                ledger.numbers.words = numbers;
+            },
+            |record, ledger| {
+                close_by_words(record, ledger);
+                ledger.month.swap(0, 2);
+            },
+            |record, ledger| {
+                close_by_words(record, ledger);
+                ledger.month[1].behind[0] = 0;
+            },
+        ];
+        for sham in shams {
+            assert_eq!(first_difference_with(sham), Some(5));
+        }
     }
 
     #[test]

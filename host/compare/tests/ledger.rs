@@ -293,6 +293,72 @@ mod ticks {
     }
 }
 
+/// Months that are closed.
+mod months {
+    use super::*;
+
+    /// Account 7's erase takes 50,000 ticks: 20,000 pass in the first month, 1 in the second, none in the third, and the others later.
+    #[test]
+    fn an_operation_is_billed_in_each_month_for_its_ticks_there() {
+        let mut trial = after("06 account=7\n20 00*3 account=7\n05 00 account=9 elapsed=20000");
+        run(&mut trial, "05 00 account=9 elapsed=1 close=1");
+        assert_eq!(trial.ledger(), &ledger_of(&[(7, [1, 1, 0])], running(7, 1)));
+        run(&mut trial, "05 00 account=9 close=1");
+        assert_eq!(trial.ledger(), &ledger_of(&[], running(7, 0)));
+        run(&mut trial, "05 00 account=9 elapsed=29998 close=1");
+        assert_eq!(trial.ledger(), &ledger_of(&[(7, [29_998, 29_998, 0])], running(7, 29_998)));
+        run(&mut trial, "06 account=9 elapsed=7\n02 00*4 account=9");
+        assert_eq!(
+            trial.ledger(),
+            &ledger_of(&[(7, [29_999, 29_999, 0]), (9, [0, 0, 1])], running(9, 0))
+        );
+        run(&mut trial, "05 00 account=7 elapsed=100 close=1");
+        assert_eq!(trial.ledger(), &ledger_of(&[(9, [12, 12, 0])], Running::NOBODY));
+    }
+
+    /// Of the new month's most an operation's ticks in the old one are no part, and a shorter one may have more.
+    #[test]
+    fn the_most_is_of_the_ticks_of_the_month() {
+        let mut trial = after("06 account=7\n20 00*3 account=7\n05 00 account=7 elapsed=49990");
+        run(
+            &mut trial,
+            "06 account=7 elapsed=10 close=1\n02 00*4 account=7\n05 00 account=7 elapsed=12",
+        );
+        assert_eq!(trial.ledger(), &ledger_of(&[(7, [22, 12, 1])], Running::NOBODY));
+    }
+
+    /// A reset after the close bills the new month's ticks alone.
+    #[test]
+    fn what_a_reset_stops_was_billed_before_it() {
+        let mut trial = after("06 account=1\n31 10 account=1\n06 account=1\n20 00*3 account=7\n05 00 account=7 elapsed=100");
+        assert_eq!(run(&mut trial, "F0 D0 account=9 elapsed=5 close=1"), "control");
+        assert_eq!(trial.ledger(), &ledger_of(&[(7, [5, 5, 0])], Running::NOBODY));
+    }
+
+    /// Whatever a ledger holds, and whether the frame after it is accepted or not.
+    #[test]
+    fn every_ledger_can_be_closed() {
+        let table = |first: u64| std::array::from_fn(|account| first - 3 * account as u64);
+        for account in [0, 7, 255, 256, 300, u64::MAX] {
+            let ledger = Ledger {
+                totals: table(u64::MAX),
+                most: table(u64::MAX / 2),
+                numbers: table(u64::MAX - 1),
+                running: running(account, u64::MAX),
+            };
+            for (caller, refusal) in [(9, 0), (256, REFUSAL)] {
+                let mut trial = Trial::new(Care::Always);
+                let call = Call {
+                    close: true,
+                    ..handed(&[0x05, 0], caller, ready(30), &ledger)
+                };
+                assert_eq!(agreed(&mut trial, &call).refusal, refusal);
+                assert_eq!(trial.ledger(), &ledger_of(&[], running(account, 0)), "{account} {caller}");
+            }
+        }
+    }
+}
+
 /// Ledgers that no series could have left.
 mod hostile {
     use super::*;

@@ -4,7 +4,7 @@
 //! The books keep a time line of the ticks passed in accepted calls, and on it
 //! the operations, each from the end of the frame that began it. Nothing is
 //! added up as time goes by. What an account owes is summed over the
-//! operations when somebody asks.
+//! operations when somebody asks, for the ticks since the month began.
 
 use std::iter::once;
 
@@ -62,7 +62,7 @@ impl Running {
 struct Operation {
     /// Whose it is; over 255 it is nobody's.
     account: u64,
-    /// Ticks billed for it before the books were opened.
+    /// Ticks billed for it before the books were opened; none after a close.
     carried: u64,
     /// When the frame that began it ended, or the books were opened on it.
     begun: u128,
@@ -78,9 +78,10 @@ impl Operation {
         place(self.account)
     }
 
-    /// Ticks it has run by now.
-    fn ran(&self, now: u128) -> u64 {
-        let passed = self.stopped.unwrap_or(now) - self.begun;
+    /// Ticks it has run by a moment.
+    fn ran(&self, by: u128) -> u64 {
+        let end = self.stopped.map_or(by, |stopped| stopped.min(by));
+        let passed = end.saturating_sub(self.begun);
         u64::try_from(passed).map_or(self.duration, |passed| passed.min(self.duration))
     }
 
@@ -91,29 +92,25 @@ impl Operation {
             None => self.duration - self.ran(now),
         }
     }
-
-    /// Ticks billed for it by now, those before the opening included. What is
-    /// nobody's stays as it was.
-    fn billed(&self, now: u128) -> u64 {
-        match self.owner() {
-            Some(_) => self.carried.saturating_add(self.ran(now)),
-            None => self.carried,
-        }
-    }
 }
 
 /// A ledger, from the moment it was opened.
 #[derive(Clone, Debug)]
 pub struct Books {
-    /// The tables at the opening.
+    /// The tables at the opening; empty after a close.
     base: Tables,
     /// The operation that ran at the opening, with the ticks it had left.
     opening: Operation,
     /// The operations begun since then, in order.
     begun: Vec<Operation>,
-    /// Ticks passed since then in accepted calls: the end of the time line.
+    /// How many of them were begun before the month.
+    earlier: usize,
+    /// When the month began: the opening, or the last close.
+    month: u128,
+    /// Ticks passed since the opening in accepted calls: the end of the time
+    /// line.
     now: u128,
-    /// Whether a call was accepted since then.
+    /// Whether a call was accepted since the opening.
     called: bool,
 }
 
@@ -131,9 +128,23 @@ impl Books {
                 stopped: None,
             },
             begun: Vec::new(),
+            earlier: 0,
+            month: 0,
             now: 0,
             called: false,
         }
+    }
+
+    /// Ends the month, and gives its tables. The next one begins now, with
+    /// nothing owed. What was begun before is no more counted, and only the
+    /// ticks that it runs from now on are billed.
+    pub fn close(&mut self) -> Tables {
+        let ended = self.tables();
+        self.base = Tables::empty();
+        self.opening.carried = 0;
+        self.earlier = self.begun.len();
+        self.month = self.now;
+        ended
     }
 
     /// Runs one chip-select frame for an account. If the record is not as busy
@@ -188,7 +199,7 @@ impl Books {
         }
         Running {
             account: latest.account,
-            billed: latest.billed(self.now),
+            billed: self.billed(latest),
         }
     }
 
@@ -227,10 +238,24 @@ impl Books {
         self.begun.last().unwrap_or(&self.opening)
     }
 
-    /// Each account's total: the ticks that its operations ran.
+    /// Ticks that an operation ran this month.
+    fn ran(&self, operation: &Operation) -> u64 {
+        operation.ran(self.now) - operation.ran(self.month)
+    }
+
+    /// Ticks billed for an operation this month, those before the opening
+    /// included if that was this month. What is nobody's stays as it was.
+    fn billed(&self, operation: &Operation) -> u64 {
+        match operation.owner() {
+            Some(_) => operation.carried.saturating_add(self.ran(operation)),
+            None => operation.carried,
+        }
+    }
+
+    /// Each account's total: the ticks that its operations ran this month.
     fn totals(&self) -> [u64; ACCOUNTS] {
         let all = owned(once(&self.opening).chain(&self.begun));
-        raised(&self.base.totals, all.map(|(owner, operation)| (owner, operation.ran(self.now))))
+        raised(&self.base.totals, all.map(|(owner, operation)| (owner, self.ran(operation))))
     }
 
     /// The largest bill of each account. What the books were opened on counts
@@ -239,14 +264,15 @@ impl Books {
         let mut most = self.base.most;
         let opening = self.called.then_some(&self.opening);
         for (owner, operation) in owned(opening.into_iter().chain(&self.begun)) {
-            most[owner] = most[owner].max(operation.billed(self.now));
+            most[owner] = most[owner].max(self.billed(operation));
         }
         most
     }
 
-    /// How many operations each account began.
+    /// How many operations each account began this month.
     fn numbers(&self) -> [u64; ACCOUNTS] {
-        raised(&self.base.numbers, owned(&self.begun).map(|(owner, _)| (owner, 1)))
+        let begun = owned(&self.begun[self.earlier..]);
+        raised(&self.base.numbers, begun.map(|(owner, _)| (owner, 1)))
     }
 }
 

@@ -154,13 +154,14 @@ impl Bench {
 
     /// These accounts have that total, most and number, and no others any.
     fn owes(&self, lines: &[(usize, [u64; 3])]) {
-        let mut tables = Tables::empty();
-        for &(account, [total, most, number]) in lines {
-            tables.totals[account] = total;
-            tables.most[account] = most;
-            tables.numbers[account] = number;
-        }
-        assert_eq!(self.books.tables(), tables);
+        assert_eq!(self.books.tables(), of_lines(lines));
+    }
+
+    /// Closes a month in which these accounts have that, and no others any.
+    /// Afterwards none has.
+    fn closes(&mut self, lines: &[(usize, [u64; 3])]) {
+        assert_eq!(self.books.close(), of_lines(lines));
+        self.owes(&[]);
     }
 
     /// An operation of this account runs, billed that much so far.
@@ -172,6 +173,17 @@ impl Bench {
     fn rests(&self) {
         self.runs(256, 0);
     }
+}
+
+/// Tables in which these accounts have that total, most and number.
+fn of_lines(lines: &[(usize, [u64; 3])]) -> Tables {
+    tables(|tables| {
+        for &(account, [total, most, number]) in lines {
+            tables.totals[account] = total;
+            tables.most[account] = most;
+            tables.numbers[account] = number;
+        }
+    })
 }
 
 /// Tables that an adjustment has made of the empty ones.
@@ -653,4 +665,70 @@ fn books_opened_anew_go_on_the_same() {
     bench.wait(5, 80);
     bench.owes(&[(3, [154, 80, 2])]);
     bench.runs(3, 80);
+}
+
+#[test]
+fn an_operation_is_billed_in_each_month_for_its_ticks_there() {
+    // Of 3's 606 ticks 200 pass in the first month, 50 in the second and none
+    // in the third. In the fourth 100 pass, and then the last 256; 5 begins
+    // a program, 101, of which 1 passes.
+    let mut bench = Bench::empty();
+    bench.begin(3, 0, CHIP_ERASE);
+    bench.wait(5, 200);
+    bench.closes(&[(3, [200, 200, 1])]);
+    bench.runs(3, 0);
+    bench.wait(5, 50);
+    bench.runs(3, 50);
+    bench.closes(&[(3, [50, 50, 0])]);
+    bench.closes(&[]);
+    bench.runs(3, 0);
+    bench.wait(5, 100);
+    bench.begin(5, 300, PROGRAM);
+    bench.wait(3, 1);
+    bench.runs(5, 1);
+    bench.closes(&[(3, [356, 356, 0]), (5, [1, 1, 1])]);
+}
+
+#[test]
+fn an_operation_that_has_just_begun_is_counted_before_the_close() {
+    let mut bench = Bench::empty();
+    bench.begin(3, 7, PROGRAM);
+    bench.closes(&[(3, [0, 0, 1])]);
+    bench.send(3, 1, RESET);
+    bench.closes(&[(3, [1, 1, 0])]);
+    bench.rests();
+}
+
+#[test]
+fn what_ran_and_was_owed_at_the_opening_is_the_first_months() {
+    // 250 of 500 ticks are left of an operation that was billed 250. 50 pass,
+    // and 200 in the new month, where the most is of these.
+    let owed = of_lines(&[(3, [1_000, 260, 4]), (9, [LIMIT + 1, 5, LIMIT + 1])]);
+    let mut bench = Bench::open(of_lines(&[(3, [1_000, 260, 4])]), Running { account: 3, billed: 250 }, 250);
+    bench.wait(5, 50);
+    bench.closes(&[(3, [1_050, 300, 4])]);
+    bench.wait(5, 1_000);
+    bench.owes(&[(3, [200, 200, 0])]);
+    bench.rests();
+
+    // Books that admit no call can be closed, and then admit one.
+    let mut bench = Bench::open(owed, Running { account: 3, billed: 250 }, 0);
+    bench.refuses(3, 9, |_| ());
+    bench.closes(&[(3, [1_000, 260, 4]), (9, [LIMIT + 1, 5, LIMIT + 1])]);
+    bench.runs(3, 0);
+    bench.wait(3, 1);
+    bench.owes(&[]);
+    bench.rests();
+}
+
+#[test]
+fn what_is_nobodys_stays_so_after_a_close() {
+    let mut bench = Bench::running(300, 77, 500);
+    bench.closes(&[]);
+    bench.runs(300, 0);
+    bench.wait(3, 100);
+    bench.runs(300, 0);
+    bench.wait(3, 400);
+    bench.owes(&[]);
+    bench.rests();
 }

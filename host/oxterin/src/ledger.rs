@@ -8,7 +8,7 @@ use crate::record::{Record, Settings};
 pub struct Running {
     /// The account whose frame began it; any number over 255 is nobody.
     pub account: u64,
-    /// The ticks billed for it so far.
+    /// The ticks billed for it so far, since the last close.
     pub billed: u64,
 }
 
@@ -65,6 +65,41 @@ impl Ledger {
             numbers: [0; Ledger::ACCOUNTS],
             running: Running::NOBODY,
         }
+    }
+
+    /// Closes a month: hands out the ledger as it was, and goes on with empty tables. The operation that runs stays its account's: its ticks
+    /// so far and its number are the old month's, its further ticks the new one's, whose `most` counts these alone. Every ledger can be
+    /// closed, also one that is full.
+    ///
+    /// ```
+    /// use oxterin::{Ledger, Line, Running};
+    ///
+    /// let mut ledger = Ledger::empty();
+    /// (ledger.totals[7], ledger.most[7], ledger.numbers[7]) = (20_012, 20_000, 2);
+    /// ledger.running = Running { account: 7, billed: 20_000 }; // of an erase of 50,000 ticks
+    /// let october = ledger.close();
+    /// assert_eq!(october.line(7), Ok(Line { total: 20_012, most: 20_000, number: 2 }));
+    /// assert_eq!(ledger, Ledger { running: Running { account: 7, billed: 0 }, ..Ledger::empty() });
+    /// ```
+    pub fn close(&mut self) -> Ledger {
+        let mut month = Ledger {
+            running: self.running,
+            ..Ledger::empty()
+        };
+        let mut running = [self.running.account, self.running.billed];
+        let number = raw::close(
+            &mut running,
+            &mut self.totals,
+            &mut self.most,
+            &mut self.numbers,
+            &mut month.totals,
+            &mut month.most,
+            &mut month.numbers,
+        );
+        assert_eq!(number, 0, "two words stand for every running operation");
+        let [account, billed] = running;
+        self.running = Running { account, billed };
+        month
     }
 
     /// An account's line.
@@ -223,6 +258,56 @@ mod tests {
             assert_eq!((ledger.totals[3], ledger.most[3], ledger.running), (total, total, running));
         }
         assert_eq!(ledger.line(8), Ledger::empty().line(8));
+    }
+
+    /// Of account 3's 50,000 ticks 20,000 pass in the first month and the others in the second, where it begins none.
+    #[test]
+    fn a_running_operation_is_billed_in_both_months() {
+        let (mut part, mut ledger) = erasing();
+        let (input, signals) = poll(20_000);
+        part.frame_for(8, &mut ledger, &input, signals).expect("it is accepted");
+        let before = ledger.clone();
+        assert_eq!(ledger.close(), before);
+        let emptied = Ledger {
+            running: Running { account: 3, billed: 0 },
+            ..Ledger::empty()
+        };
+        assert_eq!(ledger, emptied);
+        let (input, signals) = poll(u64::MAX);
+        part.frame_for(8, &mut ledger, &input, signals).expect("it is accepted");
+        let line = |total, number| {
+            Ok(Line {
+                total,
+                most: total,
+                number,
+            })
+        };
+        assert_eq!((before.line(3), ledger.line(3)), (line(20_000, 1), line(30_000, 0)));
+        assert_eq!(ledger.running, Running::NOBODY);
+    }
+
+    /// Tables that are too full for a frame are handed out word by word.
+    #[test]
+    fn a_full_ledger_can_be_closed() {
+        let mut ledger = Ledger::empty();
+        for place in 0..Ledger::ACCOUNTS {
+            let word = u64::MAX - place as u64;
+            (ledger.totals[place], ledger.most[place], ledger.numbers[place]) = (word, word / 2, word / 3);
+        }
+        ledger.running = Running {
+            account: u64::MAX,
+            billed: u64::MAX,
+        };
+        let before = ledger.clone();
+        assert_eq!(ledger.close(), before);
+        let emptied = Ledger {
+            running: Running {
+                account: u64::MAX,
+                billed: 0,
+            },
+            ..Ledger::empty()
+        };
+        assert_eq!(ledger, emptied);
     }
 
     #[test]

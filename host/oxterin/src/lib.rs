@@ -57,7 +57,7 @@ pub use record::{Mode, Record, Settings};
 /// How the proved library in this program was built: for which machine, and by which way.
 pub const BUILT: &str = env!("OXTERIN_BUILT");
 
-/// The version of the proved face, such as `1.3.0`.
+/// The version of the proved face, such as `1.4.0`.
 #[must_use]
 pub fn version() -> String {
     let number = raw::version();

@@ -87,6 +87,16 @@ extern "C" {
         most: *mut u64,
         numbers: *mut u64,
     ) -> u64;
+    fn oxterin_close(
+        running: *mut u64,
+        running_len: usize,
+        totals: *mut u64,
+        most: *mut u64,
+        numbers: *mut u64,
+        old_totals: *mut u64,
+        old_most: *mut u64,
+        old_numbers: *mut u64,
+    ) -> u64;
     fn oxterin_report(totals: *const u64, most: *const u64, numbers: *const u64, account: u64, line: *mut u64, line_len: usize) -> u64;
     fn oxterin_hex_write(
         array: *const u8,
@@ -216,6 +226,31 @@ pub fn ledger_frame(
             totals.as_mut_ptr(),
             most.as_mut_ptr(),
             numbers.as_mut_ptr(),
+        )
+    }
+}
+
+/// Closes a month: the tables are handed out and then empty, and what is running is billed nothing so far. The number is 0, or 255 if the
+/// running operation has not two words.
+pub fn close(
+    running: &mut [u64],
+    totals: &mut [u64; ACCOUNTS],
+    most: &mut [u64; ACCOUNTS],
+    numbers: &mut [u64; ACCOUNTS],
+    old_totals: &mut [u64; ACCOUNTS],
+    old_most: &mut [u64; ACCOUNTS],
+    old_numbers: &mut [u64; ACCOUNTS],
+) -> u64 {
+    unsafe {
+        oxterin_close(
+            running.as_mut_ptr(),
+            running.len(),
+            totals.as_mut_ptr(),
+            most.as_mut_ptr(),
+            numbers.as_mut_ptr(),
+            old_totals.as_mut_ptr(),
+            old_most.as_mut_ptr(),
+            old_numbers.as_mut_ptr(),
         )
     }
 }

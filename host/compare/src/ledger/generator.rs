@@ -56,6 +56,7 @@ impl Generator {
             call.ledger = self.handed_ledger(ledger);
         }
         call.account = Some(self.account());
+        call.close = self.random.chance(10);
         self.has_begun = true;
         call
     }

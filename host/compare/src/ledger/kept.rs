@@ -48,6 +48,8 @@ pub(crate) struct Kept {
     pub(crate) numbers: Guarded<{ raw::ACCOUNTS }>,
     /// Whose operation runs, and what it was billed.
     pub(crate) running: Guarded<{ raw::RUNNING }>,
+    /// The tables that the last close handed out: totals, most and numbers.
+    pub(crate) month: [Guarded<{ raw::ACCOUNTS }>; 3],
     /// The model's books, once it has opened them on the words.
     books: Option<model::Books>,
 }
@@ -66,6 +68,7 @@ impl Kept {
             most: Guarded::of(most),
             numbers: Guarded::of(numbers),
             running: Guarded::of(words_of(running)),
+            month: [0, 1, 2].map(|word| Guarded::of([word; raw::ACCOUNTS])),
             books: None,
         }
     }
@@ -117,6 +120,21 @@ impl Kept {
         self.most.compare(name, "table of most", &expected.most, found);
         self.numbers.compare(name, "table of numbers", &expected.numbers, found);
         self.running.compare(name, "running part", &words_of(expected.running), found);
+    }
+
+    /// Every word of the month that was handed out is as in this ledger, and every guard as it was.
+    pub(crate) fn compare_month(&self, name: &str, expected: &Ledger, found: &mut Difference) {
+        let [totals, most, numbers] = &self.month;
+        totals.compare(name, "closed table of totals", &expected.totals, found);
+        most.compare(name, "closed table of most", &expected.most, found);
+        numbers.compare(name, "closed table of numbers", &expected.numbers, found);
+    }
+
+    /// Writes the words of a month that was handed out.
+    pub(crate) fn hand_out(&mut self, month: [[u64; raw::ACCOUNTS]; 3]) {
+        for (kept, words) in self.month.iter_mut().zip(month) {
+            kept.words = words;
+        }
     }
 
     /// The model's books on these words.

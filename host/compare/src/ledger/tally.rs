@@ -65,6 +65,12 @@ pub struct Tally {
     passed: [u64; 2],
     /// Calls in which the ticks elapsed and those of the frame are more than 64 bits hold, while busy.
     wide: u64,
+    /// Months closed: while nobody's operation ran, and while somebody's did.
+    closed: [u64; 2],
+    /// Calls in which ticks were billed for an operation that was begun before the month.
+    older: u64,
+    /// Whether a month was closed since the running operation was begun or handed over.
+    is_older: bool,
 }
 
 impl Tally {
@@ -75,8 +81,14 @@ impl Tally {
     /// The sides differ.
     pub fn run(&mut self, trial: &mut Trial, call: &Call) -> Result<(), Difference> {
         let record = call.record.unwrap_or(*trial.record());
-        let ledger = call.ledger.as_deref().unwrap_or(trial.ledger()).clone();
+        let mut ledger = call.ledger.as_deref().unwrap_or(trial.ledger()).clone();
         let reply = trial.run(call)?;
+        self.is_older &= call.record.is_none() && call.ledger.is_none();
+        if call.close {
+            self.is_older = ledger.running.owner().is_some() && record.busy > 0;
+            self.closed[usize::from(self.is_older)] += 1;
+            ledger.close();
+        }
         if call.record.is_some() || call.ledger.is_some() {
             self.running = None;
         }
@@ -133,6 +145,9 @@ impl Tally {
             (self.passed[0], "a total that passes the limit"),
             (self.passed[1], "a number that passes the limit"),
             (self.wide, "ticks of more than 64 bits while busy"),
+            (self.closed[0], "a month closed on an idle part"),
+            (self.closed[1], "a month closed while an operation runs"),
+            (self.older, "ticks billed for an operation of an earlier month"),
         ] {
             want(count > 0, what.to_string());
         }
@@ -151,6 +166,7 @@ impl Tally {
             return;
         };
         self.saturated += u64::from(ledger.running.billed.checked_add(off).is_none());
+        self.older += u64::from(self.is_older);
         if call.account != Some(owner.into()) {
             let is_poll = call.opcode() == Some(0x05) && reply.outcome == "read";
             self.polls[usize::from(call.ticks_per_byte > 0)] += u64::from(is_poll);
@@ -171,7 +187,9 @@ impl Tally {
             let account = call.account.expect("these calls are for accounts");
             self.kinds[kind].accounts[account as usize] = true;
             self.running = Some(kind);
+            self.is_older = false;
         } else if left == 0 {
+            self.is_older = false;
             let is_stopped = call.comes_off(before) < before.busy;
             if let Some(kind) = self.running.take().filter(|_| is_stopped) {
                 self.kinds[kind].stopped += 1;
@@ -206,7 +224,9 @@ impl fmt::Display for Tally {
         )?;
         write!(f, ", bills that stop at the largest number {}", self.saturated)?;
         write!(f, "\n  totals and numbers that pass the limit {:?}", self.passed)?;
-        write!(f, ", ticks of more than 64 bits while busy {}", self.wide)
+        write!(f, ", ticks of more than 64 bits while busy {}", self.wide)?;
+        write!(f, "\n  months closed on an idle and on a busy part {:?}", self.closed)?;
+        write!(f, ", calls billed for operations of earlier months {}", self.older)
     }
 }
 
@@ -271,6 +291,16 @@ mod tests {
              05 account=3 elapsed=18446744073709551615 ticks-per-byte=1 record=0,0,0,0,0,0,20 running=7,0"
         ));
         assert_eq!((tally.nobodys, tally.saturated, tally.passed, tally.wide), (1, 1, [1, 1], 1));
+    }
+
+    #[test]
+    fn months_are_counted_by_what_runs_when_they_are_closed() {
+        let tally = counted(
+            "06 account=1 close=1\n20 00*3 account=1\n05 00 account=9 elapsed=5\n05 00 account=9 elapsed=5 close=1\n\
+             05 00 account=9 elapsed=5\n05 00 account=9 elapsed=50000\n05 00 account=9 elapsed=5\n05 00 account=9 close=1\n\
+             05 00 account=3 elapsed=9 record=0,0,0,0,0,0,20 running=256,5 close=1",
+        );
+        assert_eq!((tally.closed, tally.older), ([3, 1], 3));
     }
 
     #[test]
