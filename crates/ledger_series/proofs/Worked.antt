@@ -22,6 +22,7 @@ worked =
       number-above = refl;
       most-is-free = refl;
       others-first = refl;
+      shut-out = refl;
       not-latched = refl;
       latched-once = refl;
       stays-above = refl;

@@ -169,6 +169,8 @@ pub record Worked : Type 0 where
   pub number-above : answered two-calls (latched false) (number-of 255 9000000000000000001) ≡ 9 ∷ 9 ∷ []
   pub most-is-free : answered two-calls (latched false) (ledger zeros (set zeros 3 18446744073709551615) zeros nobody) ≡ 0 ∷ 9 ∷ []
   pub others-first : answered (given 0 7 ∷ given 0 256 ∷ given 1 255 ∷ []) (latched false) (total-of 1 9000000000000000001) ≡ 5 ∷ 5 ∷ 9 ∷ []
+  pub shut-out : map (λ (c : Done). c .reply) (calls (given 1 256 ∷ []) (latched false) empty)
+      ≡ record { refusal = 9; outcome = "nothing"; first = 0; driven = 0; covered = record { from = 0; to = 0 }; device = latched false } ∷ []
   pub not-latched : lastRecord two-calls (latched false) (total-of 0 9000000000000000001) ≡ latched false
   pub latched-once : lastRecord two-calls (latched false) (number-of 0 9000000000000000000) ≡ latched true
   pub stays-above : lastLedger two-calls (latched false) (total-of 0 9000000000000000001) ≡ total-of 0 9000000000000000001

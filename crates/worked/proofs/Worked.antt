@@ -23,7 +23,7 @@ use Rattle.worked.specs.Worked.{Exchange, Came, Row, Worked, EachWorked,
 use Rattle.worked.specs.Table.{table}
 use Rattle.worked.specs.Further.{further}
 use Rattle.worked.specs.Polls.{polls}
-use Rattle.worked.specs.Words.{unmoved, aborting, counting, bytes}
+use Rattle.worked.specs.Words.{unmoved, aborting, rousing, counting, bytes}
 use Rattle.worked.specs.Flags.{flags}
 use Rattle.worked.specs.Data.{data-rows}
 use Rattle.worked.specs.Refused.{refused-rows}
@@ -104,7 +104,7 @@ worked-polls = each-holds polls refl refl
 
 -- and those of the flags
 pub worked-flags : EachWorked flags
-unfolding flags unmoved counting repliesOf wantedOf fittingIn fitting allFitting agrees everywhere halved steadyOperations steadyPiece steadyPieces steadyFor one-side apart inside through painted run.end run.gathered cameTold next
+unfolding flags unmoved rousing counting repliesOf wantedOf fittingIn fitting allFitting agrees everywhere halved steadyOperations steadyPiece steadyPieces steadyFor one-side apart inside through painted run.end run.gathered cameTold next
     replied numberFor refusalOf anyUnfair judgedOf judged byOpcode rowOf rows lookup readAt each eachFrom over covered last
 worked-flags = each-holds flags refl refl
 

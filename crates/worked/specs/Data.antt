@@ -7,7 +7,7 @@ use Rattle.device.specs.declared.Device.{Device}
 use Rattle.device.specs.declared.Mode.the-variants.{Awake}
 use Rattle.worked.specs.Worked.{Exchange, Piece, Row}
 use Rattle.worked.specs.Frames.{latched, longer, on-array, reads, orders}
-use Rattle.worked.specs.Words.{held, stands, idle, enabled, busy, counting, clocked, whole, low, pulled, paced, came, quiet, begun, _⇒_, unmoved, aborting, piece, rising, bytes, row, sized, holding, registered}
+use Rattle.worked.specs.Words.{held, stands, idle, enabled, busy, counting, clocked, whole, low, pulled, paced, came, quiet, begun, _⇒_, unmoved, aborting, piece, rising, bytes, row, lasting, sized, holding, registered}
 
 -- with WEL 0 none is carried out, whatever the other flags
 abbrev without-wel : Device → Row
@@ -223,6 +223,45 @@ long-times =
 abbrev longer-times : Row
 longer-times = row (busy 60000000) 0xFF ((low (0x05 ∷ 0x00 ∷ []) 9223372036854775808 ⇒ came "read" 1 1 idle (0xFF ∷ 0x00 ∷ [])) ∷ []) []
 
+-- Other durations, on the small array, at 8 ticks a position: each operation lasts its own, and 06 is heard when as many have passed
+abbrev lasts : ℕ → Device
+lasts ticks = held false false false true false Awake ticks
+
+abbrev once-more : ℕ → Exchange
+once-more ticks = low (0x06 ∷ []) ticks ⇒ quiet "control" (held false false true true false Awake 0) 1
+
+abbrev other-times : Row
+other-times =
+    lasting (3 ∷ 5 ∷ 7 ∷ 11 ∷ 13 ∷ 17 ∷ 19 ∷ 23 ∷ [])
+    (registered 128 [] (piece 2 3 0x5A ∷ [])
+    (sized 65536
+    (row (held false false true true false Awake 0) 0x00
+    ((paced 8 (low (0x02 ∷ 0x00 ∷ 0x00 ∷ 0x10 ∷ 0x5A ∷ []) 0) ⇒ begun 0 0x100 (lasts 3) 5) ∷
+    once-more 3 ∷
+    (paced 8 (low (0x02 ∷ 0x00 ∷ 0x00 ∷ 0x10 ∷ 0x5A ∷ 0x5B ∷ []) 0) ⇒ begun 0 0x100 (lasts 5) 6) ∷
+    once-more 5 ∷
+    (paced 8 (low (0x81 ∷ 0x00 ∷ 0x00 ∷ 0x10 ∷ []) 0) ⇒ begun 0 0x100 (lasts 7) 4) ∷
+    once-more 7 ∷
+    (paced 8 (low (0x20 ∷ 0x00 ∷ 0x00 ∷ 0x10 ∷ []) 0) ⇒ begun 0 0x1000 (lasts 11) 4) ∷
+    once-more 11 ∷
+    (paced 8 (low (0x52 ∷ 0x00 ∷ 0x00 ∷ 0x10 ∷ []) 0) ⇒ begun 0 0x8000 (lasts 13) 4) ∷
+    once-more 13 ∷
+    (paced 8 (low (0xD8 ∷ 0x00 ∷ 0x00 ∷ 0x10 ∷ []) 0) ⇒ begun 0 0x8000 (lasts 13) 4) ∷
+    once-more 13 ∷
+    (paced 8 (low (0x60 ∷ []) 0) ⇒ begun 0 0x10000 (lasts 17) 1) ∷
+    once-more 17 ∷
+    (paced 8 (low (0xC7 ∷ []) 0) ⇒ begun 0 0x10000 (lasts 17) 1) ∷
+    once-more 17 ∷
+    (paced 8 (low (0x62 ∷ []) 0) ⇒ begun 0 0x10000 (lasts 17) 1) ∷
+    once-more 17 ∷
+    (paced 8 (low (0x31 ∷ 0x10 ∷ []) 0) ⇒ quiet "control" (lasts 0) 2) ∷
+    once-more 0 ∷
+    (paced 8 (low (0x01 ∷ 0x00 ∷ []) 0) ⇒ quiet "begun" (lasts 23) 2) ∷
+    once-more 23 ∷
+    (paced 8 (low (0x9B ∷ 0x00 ∷ 0x00 ∷ 0x02 ∷ 0x5A ∷ []) 0) ⇒ quiet "begun" (held false false false true true Awake 19) 5) ∷
+    [])
+    (piece 0 0x10000 0xFF ∷ []))))
+
 -- OTP programs: 0Fh, 33h and 55h from 3Eh on, and the array stays
 abbrev otp-anded : Row
 otp-anded =
@@ -291,6 +330,7 @@ data-rows =
     long-poll ∷
     long-times ∷
     longer-times ∷
+    other-times ∷
     otp-anded ∷
     otp-one ∷
     otp-seventy ∷

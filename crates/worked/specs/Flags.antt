@@ -9,7 +9,7 @@ use Rattle.device.specs.declared.Mode.the-variants.{Awake, Deep, UltraDeep}
 use Rattle.device.specs.Device.{fresh}
 use Rattle.worked.specs.Worked.{Exchange, Row}
 use Rattle.worked.specs.Frames.{latched, reads, orders, unlisted}
-use Rattle.worked.specs.Words.{held, stands, idle, enabled, clocked, whole, low, pulled, paced, came, quiet, begun, _⇒_, unmoved, piece, row}
+use Rattle.worked.specs.Words.{held, stands, idle, enabled, clocked, whole, low, pulled, paced, came, quiet, begun, _⇒_, unmoved, rousing, piece, row}
 
 -- a fresh record takes BPL, BP0 and the OTP-used mark from the caller; the rest is clear
 abbrev fresh-bpl : Row
@@ -243,6 +243,13 @@ dozes-ab = dozes false false true true true (whole (0xAB ∷ []) 0 ⇒ quiet "co
 abbrev dozes-05 : Row
 dozes-05 = dozes true true false true true (low (0x05 ∷ 0x00 ∷ []) 9 ⇒ quiet "control" (held true true false false true Awake 0) 2)
 
+-- and so does each of them, with nothing read and nothing begun
+abbrev rouses : Row
+rouses =
+    row (held true false false false true Awake 0) 0x00
+    (rousing (held true false false false true Awake 0) (held true false false false true UltraDeep 0) (latched ++ reads ++ orders ++ ((0xF0 ∷ 0xD0 ∷ []) ∷ (0x00 ∷ []) ∷ [])))
+    []
+
 -- with a byte more they are control too
 abbrev doze : Row
 doze = row idle 0xFF ((whole (0x79 ∷ 0x00 ∷ []) 0 ⇒ quiet "control" (held false false false false false UltraDeep 0) 2) ∷ []) []
@@ -321,6 +328,7 @@ flags =
     dozes-off-boundary ∷
     dozes-ab ∷
     dozes-05 ∷
+    rouses ∷
     doze ∷
     sleep ∷
     off-boundary ∷

@@ -105,6 +105,14 @@ aborting cut enabled dropped (bytes ∷ frames) =
     (whole (0x06 ∷ []) 0 ⇒ quiet "control" enabled 1) ∷
     aborting cut enabled dropped frames
 
+-- 79h leads to ultra-deep power-down, and each of some frames leads back
+unfoldable pub rousing : Device → Device → List (List ℕ) → List Exchange
+rousing awake asleep [] = []
+rousing awake asleep (bytes ∷ frames) =
+    (whole (0x79 ∷ []) 0 ⇒ quiet "control" asleep 1) ∷
+    (whole bytes 0 ⇒ quiet "control" awake (length bytes)) ∷
+    rousing awake asleep frames
+
 -- a range that holds one value; one whose bytes count from a value on; some bytes from a place on
 abbrev pub piece : ℕ → ℕ → ℕ → Piece
 piece from to value = record { from = from; to = to; value = value; step = 0 }
