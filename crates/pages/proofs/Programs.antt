@@ -1,80 +1,116 @@
--- The laws of a program: that a page buffer of FFh, loaded and ANDed into its page, is one, and which data bytes count; said over the
--- page's size. Assumes nothing.
+-- The laws of a program: that a page buffer of FFh, loaded byte by byte and ANDed into its page, is one, and which data
+-- bytes count; said over the page's size. Assumes nothing.
 use Prim.Native.Nat.{ℕ, zero, suc, _+_, _-_, _%_, _<_, _≤_}
 use mathlib.Core.Bool.{Bool, true, false, true≢false, false≢true, cond, _||_, or-true}
 use mathlib.Core.List.{List}
 use mathlib.Core.Path.{_≡_, refl, sym, ap, _∙_}
 use native.Mathlib.Decide.{ℕ-discrete}
-use native.Mathlib.Nat.{add-zero, add-suc, add-assoc, not-suc-le-zero, mod-lt, mod-eq-of-lt, mod-add-mod, add-mod-mod, add-mod-right}
+use native.Mathlib.Nat.{add-zero, add-suc, add-assoc, not-suc-le-zero}
+use native.Mathlib.Nat.{mod-lt, mod-eq-of-lt, mod-add-mod, add-mod-mod, add-mod-right}
 use native.Mathlib.Omega.{arith}
-use borrow.Author.Tests.{eq-eqb}
+use borrow.Author.Tests.{eq-eqb, ne-eqb}
 use lib.Bits.{bitAnd, and-mask}
-use lib.ListN.{length, getD, drop, replicate, length-replicate, getD-replicate}
-use lib.Seq.{getD-drop}
+use lib.ListN.{length, getD, set, take, drop, replicate, length-replicate, getD-replicate}
+use lib.Seq.{getD-take, getD-drop, length-take-le}
 use Rattle.cells.specs.Each.{each, over}
 use Rattle.cells.specs.Range.{range}
 use Rattle.pages.specs.Page.{aims, covered, last, loaded, andedIn, programmed}
-use Rattle.cells.proofs.Places.{each-alike, getD-each, length-each}
+use Rattle.cells.proofs.Places.{each-alike, each-set, getD-each, is-each, length-each}
 use Rattle.cells.proofs.Runs.{range-of}
+
+-- with nothing loaded yet the buffer is as it was
+pub none-loaded : (size start : ℕ) (sent xs : List ℕ) → xs ≡ each (last size start sent 0) xs
+unfolding last
+none-loaded size start sent xs = is-each (last size start sent 0) xs xs refl (λ k l. refl)
+
+-- a store of the i-th data byte at its wrapped offset loads one data byte more
+pub loads-on : (size start : ℕ) (sent xs : List ℕ) (i : ℕ) → (start + i) % size < length xs
+    → set (each (last size start sent i) xs) ((start + i) % size) (getD sent i 0)
+    ≡ each (last size start sent (i + 1)) xs
+unfolding last
+loads-on size start sent xs i l =
+    let more : i + 1 ≡ suc i = omega arith in
+    rw more
+    (each-set (last size start sent i) (last size start sent (suc i)) xs ((start + i) % size) (getD sent i 0) l
+    (rw (eq-eqb ((start + i) % size) ((start + i) % size) refl))
+    (λ k d. rw (ne-eqb ((start + i) % size) k (λ e. d (sym e)))))
 
 neither : (s t : Bool) → (s || t) ≡ false → (s ≡ false) × (t ≡ false)
 neither true t e = absurd (true≢false e)
 neither false t e = (refl, e)
 
 -- an offset that no data byte aims at keeps what it had
-pub last-uncovered : (size start : ℕ) (sent : List ℕ) (n p x : ℕ) → covered size start n p ≡ false → last size start sent n p x ≡ x
+pub last-uncovered : (size start : ℕ) (sent : List ℕ) (n p x : ℕ) → covered size start n p ≡ false
+    → last size start sent n p x ≡ x
 unfolding last covered
 last-uncovered size start sent zero p x e = refl
 last-uncovered size start sent (suc n) p x e =
-    let w : (aims size start n p ≡ false) × (covered size start n p ≡ false) = neither (aims size start n p) (covered size start n p) e in
+    let w : (aims size start n p ≡ false) × (covered size start n p ≡ false) =
+    neither (aims size start n p) (covered size start n p) e in
     rw (w .0) (last-uncovered size start sent n p x (w .1))
 
 -- FFh changes no byte
 and-FF : (x : ℕ) → x < 256 → bitAnd x 255 ≡ x
 and-FF x h = and-mask x 8 ∙ mod-eq-of-lt h
 
--- The page buffer of FFh, loaded and ANDed into its page, is the program: where no data byte aims, the buffer's FFh changes nothing.
-module _ (size page start : ℕ) (sent buffer xs : List ℕ) (filling : buffer ≡ each (loaded size start sent) (replicate size 255))
-    (bytes : (k : ℕ) → getD xs k 0 < 256) where
-  long : length buffer ≡ size
-  long = ap length filling ∙ (length-each (loaded size start sent) (replicate size 255) ∙ length-replicate size 255)
+-- A page buffer of FFh, no shorter than the page, has received the data; the page takes as much of it as it has bytes.
+module _ (size start width : ℕ) (sent whole : List ℕ)
+    (filling : whole ≡ each (loaded size start sent) (replicate width 255)) (fits : size ≤ width) where
+  abbrev buffer : List ℕ
+  buffer = take size whole
+
+  pub buffer-long : length buffer ≡ size
+  buffer-long =
+      let long : length whole ≡ width =
+      ap length filling ∙ (length-each (loaded size start sent) (replicate width 255) ∙ length-replicate width 255) in
+      length-take-le size whole (omega arith)
 
   holds : (p : ℕ) → p < size → getD buffer p 0 ≡ last size start sent (length sent) p 255
   holds p l =
-      ap (λ (b : List ℕ). getD b p 0) filling ∙
-      (getD-each (loaded size start sent) (replicate size 255) p 0 (rw (length-replicate {A = ℕ} size 255) l) ∙
-      ap (last size start sent (length sent) p) (getD-replicate size p 255 0 l))
+      let m : p < width = omega arith in
+      getD-take size whole p 0 l ∙
+      (ap (λ (b : List ℕ). getD b p 0) filling ∙
+      (getD-each (loaded size start sent) (replicate width 255) p 0 (rw (length-replicate {A = ℕ} width 255) m) ∙
+      ap (last size start sent (length sent) p) (getD-replicate width p 255 0 m)))
 
-  aimed : (k x : ℕ) → x < 256 → k - page < size → (b : Bool) → covered size start (length sent) (k - page) ≡ b
-      → bitAnd x (getD buffer (k - page) 0) ≡ cond b (bitAnd x (last size start sent (length sent) (k - page) 255)) x
-  aimed k x h l true c = rw (holds (k - page) l)
-  aimed k x h l false c = rw (holds (k - page) l, last-uncovered size start sent (length sent) (k - page) 255 c) (and-FF x h)
+  -- ANDed in it is the program: where no data byte aims, its FFh changes nothing
+  module _ (page : ℕ) (xs : List ℕ) (bytes : (k : ℕ) → getD xs k 0 < 256) where
+    aimed : (k x : ℕ) → x < 256 → k - page < size → (b : Bool) → covered size start (length sent) (k - page) ≡ b
+        → bitAnd x (getD buffer (k - page) 0) ≡ cond b (bitAnd x (last size start sent (length sent) (k - page) 255)) x
+    aimed k x h l true c = rw (holds (k - page) l)
+    aimed k x h l false c =
+        rw (holds (k - page) l, last-uncovered size start sent (length sent) (k - page) 255 c) (and-FF x h)
 
-  placed : (k x : ℕ) → x < 256 → (b : Bool) → range page (page + size) k ≡ b → andedIn page buffer k x ≡ programmed size page start sent k x
-  unfolding over
-  placed k x h false r = rw (long, r)
-  placed k x h true r =
-      let w : (page ≤ k) × (k < page + size) = range-of page (page + size) k r in
-      rw (long, r) (aimed k x h (omega arith) (covered size start (length sent) (k - page)) refl)
+    placed : (k x : ℕ) → x < 256 → (b : Bool) → range page (page + size) k ≡ b
+        → andedIn page buffer k x ≡ programmed size page start sent k x
+    unfolding over
+    placed k x h false r = rw (buffer-long, r)
+    placed k x h true r =
+        let w : (page ≤ k) × (k < page + size) = range-of page (page + size) k r in
+        rw (buffer-long, r) (aimed k x h (omega arith) (covered size start (length sent) (k - page)) refl)
 
-  pub buffered : each (andedIn page buffer) xs ≡ each (programmed size page start sent) xs
-  buffered =
-      each-alike (andedIn page buffer) (programmed size page start sent) xs
-      (λ k l. placed k (getD xs k 0) (bytes k) (range page (page + size) k) refl)
+    pub buffered : each (andedIn page buffer) xs ≡ each (programmed size page start sent) xs
+    buffered =
+        each-alike (andedIn page buffer) (programmed size page start sent) xs
+        (λ k l. placed k (getD xs k 0) (bytes k) (range page (page + size) k) refl)
 
 -- The data in two pieces: the second one replaces what the first one left.
-last-split : (size start : ℕ) (sent : List ℕ) (m n p x : ℕ) → last size start sent (m + n) p x ≡ last size (start + m) (drop m sent) n p (last size start sent m p x)
+last-split : (size start : ℕ) (sent : List ℕ) (m n p x : ℕ)
+    → last size start sent (m + n) p x ≡ last size (start + m) (drop m sent) n p (last size start sent m p x)
 unfolding last
 last-split size start sent m zero p x = rw (add-zero m)
-last-split size start sent m (suc n) p x = rw (add-suc m n, add-assoc start m n, getD-drop m sent n 0, last-split size start sent m n p x)
+last-split size start sent m (suc n) p x =
+    rw (add-suc m n, add-assoc start m n, getD-drop m sent n 0, last-split size start sent m n p x)
 
 -- what the buffer held does not matter where a data byte aims
-last-covered : (size start : ℕ) (sent : List ℕ) (n p x y : ℕ) → covered size start n p ≡ true → last size start sent n p x ≡ last size start sent n p y
+last-covered : (size start : ℕ) (sent : List ℕ) (n p x y : ℕ) → covered size start n p ≡ true
+    → last size start sent n p x ≡ last size start sent n p y
 unfolding last covered
 last-covered size start sent zero p x y e = absurd (false≢true e)
 last-covered size start sent (suc n) p x y e = by (aims size start n p) (last-covered size start sent n p x y) e
   where
-    by : (b : Bool) → (covered size start n p ≡ true → last size start sent n p x ≡ last size start sent n p y) → (b || covered size start n p) ≡ true
+    by : (b : Bool) → (covered size start n p ≡ true → last size start sent n p x ≡ last size start sent n p y)
+        → (b || covered size start n p) ≡ true
         → cond b (getD sent n 0) (last size start sent n p x) ≡ cond b (getD sent n 0) (last size start sent n p y)
     by true ih c = refl
     by false ih c = ih c
@@ -85,7 +121,8 @@ unfolding covered
 covered-at size start zero j l = absurd (not-suc-le-zero l)
 covered-at size start (suc n) j l = by (ℕ-discrete j n) (covered-at size start n j)
   where
-    by : Dec (j ≡ n) → (j < n → covered size start n ((start + j) % size) ≡ true) → covered size start (suc n) ((start + j) % size) ≡ true
+    by : Dec (j ≡ n) → (j < n → covered size start n ((start + j) % size) ≡ true)
+        → covered size start (suc n) ((start + j) % size) ≡ true
     by (yes e) ih = rw (e, eq-eqb ((start + n) % size) ((start + n) % size) refl)
     by (no e) ih = rw (ih (omega arith)) (or-true (aims size start n ((start + j) % size)))
 

@@ -1,12 +1,11 @@
-// Programming: of the data the last bytes count, as many as the page has, and each is ANDed at the one place that it aims at. It knows
-// pages of any size, and nothing of flash.
-use cells::wrapped;
+// Programming a page. Data that is shorter than the page, or does not go past its end, is ANDed in where it aims; other
+// data goes through a page buffer. It knows pages of up to 256 bytes, and nothing of flash.
 use numbers::lesser;
 ghost use mathlib.Core.Path.{_≡_};
 ghost use Prim.Native.Nat.{_+_, _≤_, _<_};
 ghost use lib.ListN.{length, drop};
 ghost use Rattle.cells.specs.Each.{each};
-ghost use Rattle.pages.specs.Page.{andedIn, programmed};
+ghost use Rattle.pages.specs.Page.{loaded, andedIn, programmed};
 
 // The data is ANDed into the memory from `at` on, a byte at a time.
 fn and_each(memory: &mut [u8], at: usize, sent: &[u8])
@@ -48,22 +47,44 @@ fn and_in(memory: &mut [u8], at: usize, sent: &[u8])
     and_each(memory, at, sent);
 }
 
-// Programs a page with data that goes past its end: of it the last `size` bytes count. One run of them goes up to the page's end, and
-// what is left goes on at its beginning.
+// Programs a page with data that goes past its end and is shorter than the page: no two bytes aim at one place. One run
+// goes up to the page's end, and what is left goes on at its beginning.
 fn program_around(memory: &mut [u8], size: usize, page: usize, start: usize, sent: &[u8])
     requires { ⌜ (page + size ≤ length (now memory)) × (start < size) ⌝ }
-    ensures { λ _. ⌜ now (memory .exit) ≡ each (programmed size page start (now (sent .entry))) (now (memory .entry)) ⌝ }
+    requires { ⌜ (size < start + length (now sent)) × (length (now sent) < size) ⌝ }
+    ensures { λ _. ⌜ now (memory .exit)
+        ≡ each (programmed size page start (now (sent .entry))) (now (memory .entry)) ⌝ }
 {
-    let count = lesser(sent.len(), size);
-    let skipped = sent.len() - count;
-    let offset = wrapped(start + skipped, size);
-    let turn = skipped + lesser(count, size - offset);
-    and_each(memory, page + offset, &sent[skipped..turn]);
-    and_each(memory, page, &sent[turn..]);
+    let room = size - start;
+    and_each(memory, page + start, &sent[..room]);
+    and_each(memory, page, &sent[room..]);
 }
 
-// Programs the page of `size` bytes at `page` with the source from `from` on, the first byte at the offset `start`. Data that does not
-// go past the page's end is one run.
+// The buffer receives all data by wrapped offset, the first byte at `start`: a later byte replaces an earlier one.
+fn load(buffer: &mut [u8], size: usize, start: usize, sent: &[u8])
+    requires { ⌜ (size ≤ length (now buffer)) × (start < size) ⌝ }
+    ensures { λ _. ⌜ now (buffer .exit) ≡ each (loaded size start (now (sent .entry))) (now (buffer .entry)) ⌝ }
+{
+    let mut i = 0;
+    while i < sent.len() {
+        buffer[(start + i) % size] = sent[i];
+        i += 1;
+    }
+}
+
+// Programs a page with any data: a page buffer of FFh receives it, and is ANDed into the page, as far as the page goes.
+fn program_buffered(memory: &mut [u8], size: usize, page: usize, start: usize, sent: &[u8])
+    requires { ⌜ (page + size ≤ length (now memory)) × (start < size) × (size ≤ 256) ⌝ }
+    ensures { λ _. ⌜ now (memory .exit)
+        ≡ each (programmed size page start (now (sent .entry))) (now (memory .entry)) ⌝ }
+{
+    let mut buffer = [255; 256];
+    load(&mut buffer, size, start, sent);
+    and_each(memory, page, &buffer[..size]);
+}
+
+// Programs the page of `size` bytes at `page` with the source from `from` on, the first byte at the offset `start`.
+// Data that does not go past the page's end is one run.
 pub fn program_page(
     memory: &mut [u8],
     size: usize,
@@ -72,13 +93,18 @@ pub fn program_page(
     source: &[u8],
     from: usize,
 )
-    requires { ⌜ (page + size ≤ length (now memory)) × (start < size) ⌝ }
-    ensures { λ _. ⌜ now (memory .exit) ≡ each (programmed size page start (drop from (now (source .entry)))) (now (memory .entry)) ⌝ }
+    requires { ⌜ (page + size ≤ length (now memory)) × (start < size) × (size ≤ 256) ⌝ }
+    ensures { λ _. ⌜ now (memory .exit)
+        ≡ each (programmed size page start (drop from (now (source .entry)))) (now (memory .entry)) ⌝ }
 {
     let sent = &source[lesser(from, source.len())..];
     if sent.len() <= size - start {
         and_in(memory, page + start, sent);
         return;
     }
-    program_around(memory, size, page, start, sent);
+    if sent.len() < size {
+        program_around(memory, size, page, start, sent);
+        return;
+    }
+    program_buffered(memory, size, page, start, sent);
 }

@@ -17,7 +17,7 @@ program-spec =
     (λ c κs. search needs)
     (λ c κs. search needs)
     (λ c. search needs)
-    (λ c κs. (omega arith, omega arith))
+    (λ c κs. (omega arith, omega arith, omega arith))
     (λ c. omega arith)
     (λ c. search needs)
     returns)
