@@ -27,8 +27,16 @@ range-behind a b k p = rw (le-ltb k b p) (and-false (leb a k))
 pub range-of : (a b k : ℕ) → range a b k ≡ true → (a ≤ k) × (k < b)
 range-of a b k e = let w : (leb a k ≡ true) × (ltb k b ≡ true) = and-eq-true-iff (leb a k) (ltb k b) .0 e in (leb-true a k (w .0), ltb-true k b (w .1))
 
+-- from a place up to itself there is none
+pub range-none : (a k : ℕ) → range a a k ≡ false
+range-none a k = by (decLt k a)
+  where
+    by : Dec (k < a) → range a a k ≡ false
+    by (yes l) = range-before a a k l
+    by (no l) = range-behind a a k (omega arith)
+
 -- one place more makes no difference elsewhere
-range-more : (a i k : ℕ) → k ≢ i → range a (i + 1) k ≡ range a i k
+pub range-more : (a i k : ℕ) → k ≢ i → range a (i + 1) k ≡ range a i k
 range-more a i k n = by (decLt k i)
   where
     by : Dec (k < i) → range a (i + 1) k ≡ range a i k
@@ -60,12 +68,8 @@ begins f a b xs p =
     record {
       low = omega arith;
       high = p;
-      so-far = is-each (over (range a a) f) xs xs refl (λ k l. sym (over-out (range a a) f k (getD xs k 0) (empty k (decLt k a))));
+      so-far = is-each (over (range a a) f) xs xs refl (λ k l. sym (over-out (range a a) f k (getD xs k 0) (range-none a k)));
     }
-  where
-    empty : (k : ℕ) → Dec (k < a) → range a a k ≡ false
-    empty k (yes l) = range-before a a k l
-    empty k (no l) = range-behind a a k (omega arith)
 
 module _ {f : Cell} {a b : ℕ} {xs : List ℕ} {i : ℕ} {ys : List ℕ} (r : Reached f a b xs i ys) where
   -- the length stays

@@ -1,4 +1,4 @@
-// Copying out of a memory, in straight runs.
+// Copying from one memory to another, in straight runs.
 use numbers::lesser;
 ghost use mathlib.Core.Path.{_≡_};
 ghost use Prim.Native.Nat.{_+_, _-_, _≤_, _<_};
@@ -7,7 +7,7 @@ ghost use Rattle.cells.specs.Each.{each};
 ghost use Rattle.cells.specs.Range.{copied, run};
 
 // One straight run: the output from `from` up to `to` receives the memory from `start` on.
-fn copy_run(output: &mut [u8], from: usize, to: usize, memory: &[u8], start: usize)
+pub fn copy_run(output: &mut [u8], from: usize, to: usize, memory: &[u8], start: usize)
     requires { ⌜ (from ≤ to) × (to ≤ length (now output)) × (start + (to - from) ≤ length (now memory)) ⌝ }
     ensures { λ _. ⌜ now (output .exit) ≡ each (run from to (now (memory .entry)) start) (now (output .entry)) ⌝ }
 {

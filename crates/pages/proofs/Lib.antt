@@ -1,4 +1,5 @@
 pub mod Programs
+mod Loads
 pub mod Aims
 mod Pieces
 pub mod Ways

@@ -1,5 +1,5 @@
--- The laws of a program: that a page buffer of FFh, loaded byte by byte and ANDed into its page, is one, and which data
--- bytes count; said over the page's size. Assumes nothing.
+-- The laws of a program: that a page buffer of FFh, loaded and ANDed into its page, is one, and which data bytes count;
+-- said over the page's size. Assumes nothing.
 use Prim.Native.Nat.{ℕ, zero, suc, _+_, _-_, _%_, _<_, _≤_}
 use mathlib.Core.Bool.{Bool, true, false, true≢false, false≢true, cond, _||_, or-true}
 use mathlib.Core.List.{List}
@@ -8,32 +8,15 @@ use native.Mathlib.Decide.{ℕ-discrete}
 use native.Mathlib.Nat.{add-zero, add-suc, add-assoc, not-suc-le-zero}
 use native.Mathlib.Nat.{mod-lt, mod-eq-of-lt, mod-add-mod, add-mod-mod, add-mod-right}
 use native.Mathlib.Omega.{arith}
-use borrow.Author.Tests.{eq-eqb, ne-eqb}
+use borrow.Author.Tests.{eq-eqb}
 use lib.Bits.{bitAnd, and-mask}
-use lib.ListN.{length, getD, set, take, drop, replicate, length-replicate, getD-replicate}
+use lib.ListN.{length, getD, take, drop, replicate, length-replicate, getD-replicate}
 use lib.Seq.{getD-take, getD-drop, length-take-le}
 use Rattle.cells.specs.Each.{each, over}
 use Rattle.cells.specs.Range.{range}
 use Rattle.pages.specs.Page.{aims, covered, last, loaded, andedIn, programmed}
-use Rattle.cells.proofs.Places.{each-alike, each-set, getD-each, is-each, length-each}
+use Rattle.cells.proofs.Places.{each-alike, getD-each, length-each}
 use Rattle.cells.proofs.Runs.{range-of}
-
--- with nothing loaded yet the buffer is as it was
-pub none-loaded : (size start : ℕ) (sent xs : List ℕ) → xs ≡ each (last size start sent 0) xs
-unfolding last
-none-loaded size start sent xs = is-each (last size start sent 0) xs xs refl (λ k l. refl)
-
--- a store of the i-th data byte at its wrapped offset loads one data byte more
-pub loads-on : (size start : ℕ) (sent xs : List ℕ) (i : ℕ) → (start + i) % size < length xs
-    → set (each (last size start sent i) xs) ((start + i) % size) (getD sent i 0)
-    ≡ each (last size start sent (i + 1)) xs
-unfolding last
-loads-on size start sent xs i l =
-    let more : i + 1 ≡ suc i = omega arith in
-    rw more
-    (each-set (last size start sent i) (last size start sent (suc i)) xs ((start + i) % size) (getD sent i 0) l
-    (rw (eq-eqb ((start + i) % size) ((start + i) % size) refl))
-    (λ k d. rw (ne-eqb ((start + i) % size) k (λ e. d (sym e)))))
 
 neither : (s t : Bool) → (s || t) ≡ false → (s ≡ false) × (t ≡ false)
 neither true t e = absurd (true≢false e)

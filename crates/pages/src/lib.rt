@@ -1,5 +1,6 @@
-// Programming a page. Data that is shorter than the page, or does not go past its end, is ANDed in where it aims; other
-// data goes through a page buffer. It knows pages of up to 256 bytes, and nothing of flash.
+// Programming a page. Data that is shorter than the page is ANDed in where it aims; other data goes through a page
+// buffer. It knows pages of up to 256 bytes, and nothing of flash.
+use cells::copy::copy_run;
 use numbers::lesser;
 ghost use mathlib.Core.Path.{_≡_};
 ghost use Prim.Native.Nat.{_+_, _≤_, _<_};
@@ -60,15 +61,19 @@ fn program_around(memory: &mut [u8], size: usize, page: usize, start: usize, sen
     and_each(memory, page, &sent[room..]);
 }
 
-// The buffer receives all data by wrapped offset, the first byte at `start`: a later byte replaces an earlier one.
+// The buffer receives all data by wrapped offset, the first byte at `start`: in runs up to the page's end, a later run
+// replacing an earlier one.
 fn load(buffer: &mut [u8], size: usize, start: usize, sent: &[u8])
     requires { ⌜ (size ≤ length (now buffer)) × (start < size) ⌝ }
     ensures { λ _. ⌜ now (buffer .exit) ≡ each (loaded size start (now (sent .entry))) (now (buffer .entry)) ⌝ }
 {
-    let mut i = 0;
-    while i < sent.len() {
-        buffer[(start + i) % size] = sent[i];
-        i += 1;
+    let mut at = 0;
+    let mut next = start;
+    while at < sent.len() {
+        let n = lesser(sent.len() - at, size - next);
+        copy_run(buffer, next, next + n, sent, at);
+        at += n;
+        next = 0;
     }
 }
 
@@ -84,7 +89,7 @@ fn program_buffered(memory: &mut [u8], size: usize, page: usize, start: usize, s
 }
 
 // Programs the page of `size` bytes at `page` with the source from `from` on, the first byte at the offset `start`.
-// Data that does not go past the page's end is one run.
+// Data that is shorter than the page and does not go past its end is one run.
 pub fn program_page(
     memory: &mut [u8],
     size: usize,
@@ -98,13 +103,13 @@ pub fn program_page(
         ≡ each (programmed size page start (drop from (now (source .entry)))) (now (memory .entry)) ⌝ }
 {
     let sent = &source[lesser(from, source.len())..];
+    if size <= sent.len() {
+        program_buffered(memory, size, page, start, sent);
+        return;
+    }
     if sent.len() <= size - start {
         and_in(memory, page + start, sent);
         return;
     }
-    if sent.len() < size {
-        program_around(memory, size, page, start, sent);
-        return;
-    }
-    program_buffered(memory, size, page, start, sent);
+    program_around(memory, size, page, start, sent);
 }

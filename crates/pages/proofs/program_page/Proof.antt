@@ -24,23 +24,22 @@ asked c xs e =
     (from-the-end (c .lesser .result) (a .from) (a .source .now) (c .lesser .ensures))
 
 returns : tie.Need-returns
-returns c =
-    let start = c .before .before .before .before .before .before .before .before .before in
+returns c = asked (c .before .before .before .before .before .before) _ (c .before .before .program-buffered .ensures)
+
+returns-2 : tie.Need-returns-2
+returns-2 c =
+    let begun = c .before .before .before .before .before .before .before in
+    let start = begun .before .before .before in
     let a = start .args in
-    let begun = c .before .before .before .before .before .before in
     let sent = piece (begun .lesser .result) (length (a .source .now)) (a .source .now) in
     asked begun _
     (c .before .before .and-in .ensures ∙
     at-once (a .size) (a .page) (a .start) sent (a .memory .now) (start .pre .1)
-    (c .before .before .before .before .if1 .taken))
-
-returns-2 : tie.Need-returns-2
-returns-2 c =
-    asked (c .before .before .before .before .before .before .before) _ (c .before .before .program-around .ensures)
+    (c .before .before .before .before .if2 .taken))
 
 returns-3 : tie.Need-returns-3
 returns-3 c =
-    asked (c .before .before .before .before .before .before .before) _ (c .before .before .program-buffered .ensures)
+    asked (c .before .before .before .before .before .before .before) _ (c .before .before .program-around .ensures)
 
 pub program-page-spec : {M : Type 1} → statement M
 program-page-spec =
@@ -50,11 +49,11 @@ program-page-spec =
     (λ c. search needs)
     (λ c. search needs)
     (λ c. search needs)
-    (λ c. search needs)
-    (λ c. search needs)
     (λ c κs. search needs)
     (λ c. search needs)
     returns
+    (λ c. search needs)
+    (λ c. search needs)
     (λ c κs. search needs)
     (λ c. search needs)
     returns-2
