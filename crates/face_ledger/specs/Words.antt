@@ -1,5 +1,5 @@
--- A frame through the ledger by words, and the report on an account. Words that stand for nothing are answered with 255, and then nothing
--- changes. Assumes nothing.
+-- A frame through the ledger by words, and the report on an account. Words that stand for nothing are answered with
+-- 255, and then nothing changes. Assumes nothing.
 use Prim.Native.Nat.{ℕ}
 use mathlib.Core.Bool.{Bool, cond, _&&_}
 use mathlib.Core.List.{List, [], _∷_}
@@ -34,7 +34,8 @@ pub record Ticket : Type 0 where
   pub numbers : List ℕ
 
 abbrev pub ticket : ℕ → List ℕ → List ℕ → List ℕ → List ℕ → Ticket
-ticket account running totals most numbers = record { account = account; running = running; totals = totals; most = most; numbers = numbers }
+ticket account running totals most numbers =
+    record { account = account; running = running; totals = totals; most = most; numbers = numbers }
 
 abbrev pub ledgerOf : Ticket → Ledger
 ledgerOf k = ledger (k .totals) (k .most) (k .numbers) (runningOf (k .running))
@@ -52,12 +53,14 @@ pub record LeftFor : Type 0 where
   pub numbers : List ℕ
 
 abbrev pub leftFor : Left → List ℕ → List ℕ → List ℕ → List ℕ → LeftFor
-leftFor frame running totals most numbers = record { frame = frame; running = running; totals = totals; most = most; numbers = numbers }
+leftFor frame running totals most numbers =
+    record { frame = frame; running = running; totals = totals; most = most; numbers = numbers }
 
 -- the result of a frame through the ledger, as words: as many as are lent
 abbrev pub told : Handed → Ticket → Result → LeftFor
 told h k r =
-    leftFor (plain.told h (record { reply = r .reply; lent = r .lent })) (asLent (k .running) (runningWords (r .ledger .running))) (r .ledger .totals)
+    leftFor (plain.told h (record { reply = r .reply; lent = r .lent }))
+    (asLent (k .running) (runningWords (r .ledger .running))) (r .ledger .totals)
     (r .ledger .most) (r .ledger .numbers)
 
 -- words that stand for nothing: 255, and all is as it was
@@ -79,7 +82,8 @@ tables totals most numbers = record { totals = totals; most = most; numbers = nu
 abbrev pub tablesOf : Ledger → Tables
 tablesOf l = tables (l .totals) (l .most) (l .numbers)
 
--- what the close of a month leaves: its number, the running operation's words, the tables, and those that were handed out
+-- what the close of a month leaves: its number, the running operation's words, the tables, and those that were handed
+-- out
 pub record Closed : Type 0 where
   pub number : ℕ
   pub running : List ℕ
@@ -104,4 +108,5 @@ abbrev pub reportNumber : Reported → List ℕ → ℕ
 reportNumber r line = cond (isReport (length line)) (numberOf (r .refusal)) 255
 
 abbrev pub reportWords : Reported → List ℕ → List ℕ
-reportWords r line = writtenIf (eqb (numberOf (r .refusal)) 0 && isReport (length line)) (r .total ∷ r .most ∷ r .number ∷ []) line
+reportWords r line =
+    writtenIf (eqb (numberOf (r .refusal)) 0 && isReport (length line)) (r .total ∷ r .most ∷ r .number ∷ []) line

@@ -36,14 +36,18 @@ pub record Promises : Type 0 where
   pub round-trip : (array before : List ℕ) → Bytes array → isArray (length array) ≡ true → length before ≡ length array
       → (readingOf (textOf array) (length before) ≡ reading 0 0) × (arrayOf (textOf array) before ≡ array)
   -- so do the characters that the writer leaves in an output of any length, wherever it does not refuse
-  pub handed-on : (array output before : List ℕ) → Bytes array → length before ≡ length array → writtenOf array (length output) .refusal ≡ 0
+  pub handed-on : (array output before : List ℕ) → Bytes array → length before ≡ length array
+      → writtenOf array (length output) .refusal ≡ 0
       → arrayOf (take (writtenOf array (length output) .characters) (outputOf array output)) before ≡ array
   -- the size alone says how long the text is
-  pub text-length : (array : List ℕ) → isArray (length array) ≡ true → length (textOf array) ≡ charactersFor (length array)
+  pub text-length : (array : List ℕ) → isArray (length array) ≡ true → length (textOf array)
+      ≡ charactersFor (length array)
   -- what lies behind the text stays
-  pub behind : (array output : List ℕ) (k d : ℕ) → writtenOf array (length output) .characters ≤ k → getD (outputOf array output) k d ≡ getD output k d
+  pub behind : (array output : List ℕ) (k d : ℕ) → writtenOf array (length output) .characters ≤ k
+      → getD (outputOf array output) k d ≡ getD output k d
   -- refused, nothing is written
-  pub refused-output : (array output : List ℕ) → writtenOf array (length output) .refusal ≢ 0 → outputOf array output ≡ output
+  pub refused-output : (array output : List ℕ) → writtenOf array (length output) .refusal ≢ 0 → outputOf array output
+      ≡ output
   pub refused-array : (text array : List ℕ) → readingOf text (length array) .refusal ≢ 0 → arrayOf text array ≡ array
   -- Byte k afterwards is the data byte of the last HEX record that names k,
   pub last-record-wins : (text array : List ℕ) (before after : List (List ℕ)) (line : List ℕ) (k : ℕ)
@@ -60,7 +64,8 @@ pub record Promises : Type 0 where
       × (judgedIn text (length array) ≡ judgedIn other (length array))
       × (arrayOf text array ≡ arrayOf other array)
   -- texts that differ in case alone get the same answer, place and all
-  pub same-place : (text other : List ℕ) → map upperCase text ≡ map upperCase other → (size : ℕ) → readingOf text size ≡ readingOf other size
+  pub same-place : (text other : List ℕ) → map upperCase text ≡ map upperCase other → (size : ℕ) → readingOf text size
+      ≡ readingOf other size
   -- a line ends with LF or with CR LF, and the last ending may be missing: the lines are the same
   pub endings : (line text : List ℕ) → plain line ≡ true
       → (linesIn (line ++ LF ∷ text) ≡ line ∷ linesIn text)

@@ -34,9 +34,12 @@ pub record Worked : Type 0 where
   -- the end; the upper part FFFFh; 16 bytes that spell FLUID PROFILE, and NUL, F and L behind it, at 2462h
   pub the-end : recordLine 0 1 nothing ≡ characters ":00000001FF"
   pub an-upper-part : recordLine 0 4 (0xFF then 0xFF then nothing) ≡ characters ":02000004FFFFFC"
-  pub sixteen-bytes : recordLine 0x2462 0 (characters "FLUID PROFILE" ++ 0 then characters "FL") ≡ characters ":10246200464C5549442050524F46494C4500464C33"
-  -- two records of which the later one wins, in lower case, with CR LF, and with no ending behind the last: five bytes of FFh become these
-  pub later-wins : carried 0 (linesIn (characters ":0400000001020304f2\r\n:02000100cafe35\n:00000001ff")) (replicate 5 0xFF)
+  pub sixteen-bytes : recordLine 0x2462 0 (characters "FLUID PROFILE" ++ 0 then characters "FL")
+      ≡ characters ":10246200464C5549442050524F46494C4500464C33"
+  -- two records of which the later one wins, in lower case, with CR LF, and with no ending behind the last: five bytes
+  -- of FFh become these
+  pub later-wins : carried 0 (linesIn (characters ":0400000001020304f2\r\n:02000100cafe35\n:00000001ff"))
+      (replicate 5 0xFF)
       ≡ 0x01 then 0xCA then 0xFE then 0x04 then 0xFF then nothing
   pub both-endings : judgement ":0400000001020304f2\r\n:02000100cafe35\n:00000001ff" ≡ verdict 0 0
   -- the upper part goes back: A5h at 0020h of upper part 0001, then 5Ah at 0020h of upper part 0000
@@ -61,14 +64,16 @@ pub record Worked : Type 0 where
   -- the upper part is that of the last type 04, and counts for the HEX records after it
   pub last-upper-part : uppersAfter 0 (linesIn (characters ":020000040001F9\n:020000040000FA\n")) ≡ 0
   pub named-after : anyNames 0 (linesIn (characters ":020000040001F9\n:020010001112CB\n")) 0x10011 ≡ true
-  -- 12: an empty line, a blank, CR without LF, a digit too few, an end record with data (its checksum is wrong too), an upper part of one byte
+  -- 12: an empty line, a blank, CR without LF, a digit too few, an end record with data (its checksum is wrong too), an
+  -- upper part of one byte
   pub empty-line : judgement "\n:00000001FF\n" ≡ verdict 12 0
   pub a-blank : judgement ":00000001FF \n" ≡ verdict 12 0
   pub lone-CR : judgement ":00000001FF\r" ≡ verdict 12 0
   pub too-short : judgement ":0000000000\n:00000001F\n" ≡ verdict 12 1
   pub end-with-data : judgement ":0100000100FF\n" ≡ verdict 12 0
   pub short-upper : judgement ":0100000400FB\n" ≡ verdict 12 0
-  -- 13: the checksum is one less than it should be, and the next line, which is none, is not looked at; of another type too
+  -- 13: the checksum is one less than it should be, and the next line, which is none, is not looked at; of another type
+  -- too
   pub wrong-sum : judgement ":00000001FE\n:" ≡ verdict 13 0
   pub wrong-sum-first : judgement ":020000021000EB\n" ≡ verdict 13 0
   -- 14: an extended segment address
@@ -76,7 +81,8 @@ pub record Worked : Type 0 where
   -- the length of another type is not judged, nor the addresses of an end record and an upper part
   pub other-type-bare : judgement ":00000002FE\n" ≡ verdict 14 0
   pub addresses-unjudged : judgement ":021234040000B4\n:00123401B9\n" ≡ verdict 0 0
-  -- 15: two bytes at FFFFh, though the large array has both; one byte at 10000h of the small one; a record without data is good anywhere
+  -- 15: two bytes at FFFFh, though the large array has both; one byte at 10000h of the small one; a record without data
+  -- is good anywhere
   pub past-64-KiB : judgedIn (characters ":02FFFF00000000\n") 131072 ≡ verdict 15 0
   pub outside-array : judgement ":020000040001F9\n:0100000000FF\n:00000001FF\n" ≡ verdict 15 1
   pub no-data : judgement ":020000040005F5\n:0000000000\n:00000001FF\n" ≡ verdict 0 0

@@ -1,4 +1,5 @@
--- When a frame begins an operation on the array: all that has to hold, in one line; and how long an operation takes. Assumes nothing.
+-- When a frame begins an operation on the array: all that has to hold, in one line; and how long an operation takes.
+-- Assumes nothing.
 use Prim.Native.Nat.{ℕ}
 use mathlib.Core.Bool.{Bool, true, false, not, _&&_}
 use lib.Dec.{leb, ltb}
@@ -54,7 +55,8 @@ asksFor (Works work) = workAsks work
 
 -- by opcode: a program or an erase, complete, on a boundary, write-enabled, unprotected
 abbrev pub readyByOpcode : Row → Device → Facts → Bool
-readyByOpcode r d f = meansArray (r .command) && (leb (r .bytes) (f .bytes) && (onBoundary f && (d .wel && not (d .bp0))))
+readyByOpcode r d f =
+    meansArray (r .command) && (leb (r .bytes) (f .bytes) && (onBoundary f && (d .wel && not (d .bp0))))
 
 -- and awake, idle at its first bit, with a whole opcode
 abbrev pub ready : Device → Facts → Bool

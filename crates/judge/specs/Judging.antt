@@ -1,5 +1,6 @@
--- Judging a frame: from the record at its rise, the settings and the facts of the frame to the record afterwards, the outcome, the driven
--- positions and what is to be done. What a memory holds is not among its arguments. Assumes nothing.
+-- Judging a frame: from the record at its rise, the settings and the facts of the frame to the record afterwards, the
+-- outcome, the driven positions and what is to be done. What a memory holds is not among its arguments. Assumes
+-- nothing.
 use Prim.Native.Nat.{ℕ, _-_, _%_, min}
 use mathlib.Core.Bool.{Bool, false, cond, not, _&&_, _||_}
 use lib.Dec.{leb, ltb, eqb}
@@ -17,12 +18,14 @@ use Rattle.device.specs.declared.Device.{Device}
 use Rattle.device.specs.declared.Mode.the-variants.{Awake, Deep, UltraDeep}
 use Rattle.settings.specs.declared.Settings.{Settings}
 use Rattle.settings.specs.declared.Kind.{Kind}
-use Rattle.settings.specs.declared.Kind.the-variants.{ByteProgram, LongerProgram, PageErase, SmallErase, LargeErase, ChipErase, OtpProgram, StatusWrite}
+use Rattle.settings.specs.declared.Kind.the-variants.{ByteProgram, LongerProgram, PageErase, SmallErase, LargeErase}
+use Rattle.settings.specs.declared.Kind.the-variants.{ChipErase, OtpProgram, StatusWrite}
 use Rattle.judge.specs.declared.Facts.{Facts}
 use Rattle.judge.specs.declared.Judged.{Judged}
 use Rattle.judge.specs.declared.Outcome.{Outcome}
 use Rattle.judge.specs.declared.Action.{Action}
-use Rattle.device.specs.Device.{deep, ultraDeep, latched, dropped, moved, woken, working, reset, marked, written, enabled}
+use Rattle.device.specs.Device.{deep, ultraDeep, latched, dropped, moved, woken, working, reset, marked, written}
+use Rattle.device.specs.Device.{enabled}
 use Rattle.settings.specs.Settings.{durationOf}
 
 -- an outcome with nothing driven and no memory to change
@@ -42,7 +45,8 @@ aborted d = quiet Outcome.Aborted (dropped d)
 
 -- an operation takes effect: WEL drops, and the part is busy for the duration
 abbrev pub begun : Device → ℕ → Action → Judged
-begun d ticks action = record { device = working (dropped d) ticks; outcome = Outcome.Begun; first = 0; driven = 0; action = action }
+begun d ticks action =
+    record { device = working (dropped d) ticks; outcome = Outcome.Begun; first = 0; driven = 0; action = action }
 
 -- on a boundary: whole bytes were clocked
 abbrev pub onBoundary : Facts → Bool

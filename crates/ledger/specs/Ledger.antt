@@ -16,8 +16,8 @@ use Rattle.ledger.specs.declared.Reported.{Reported}
 abbrev pub isAccount : ℕ → Bool
 isAccount account = ltb account 256
 
--- For each account its total, the most ticks billed for one of its operations, and the number of its operations; and whose operation is
--- running, with what it was billed so far. An account over 255 is nobody.
+-- For each account its total, the most ticks billed for one of its operations, and the number of its operations; and
+-- whose operation is running, with what it was billed so far. An account over 255 is nobody.
 pub record Ledger : Type 0 where
   pub totals : List ℕ
   pub most : List ℕ
@@ -61,13 +61,16 @@ at account f table = cond (isAccount account) (set table account (f (getD table 
 
 -- what an account's operation was billed so far rises, up to the largest number of 64 bits
 abbrev pub paid : Running → ℕ → Running
-paid running ticks = cond (isAccount (running .account)) (runs (running .account) (min (running .billed + ticks) 0xFFFFFFFFFFFFFFFF)) running
+paid running ticks =
+    cond (isAccount (running .account)) (runs (running .account) (min (running .billed + ticks) 0xFFFFFFFFFFFFFFFF))
+    running
 
 -- ticks are billed to the account of the running operation
 abbrev pub charged : ℕ → Ledger → Ledger
 charged ticks l =
     ledger (at (l .running .account) (λ total. total + ticks) (l .totals))
-    (at (l .running .account) (λ most. max most (paid (l .running) ticks .billed)) (l .most)) (l .numbers) (paid (l .running) ticks)
+    (at (l .running .account) (λ most. max most (paid (l .running) ticks .billed)) (l .most)) (l .numbers)
+    (paid (l .running) ticks)
 
 -- the number of an account rises by one, and its operation runs
 abbrev pub started : ℕ → Ledger → Ledger
@@ -77,7 +80,8 @@ started account l = ledger (l .totals) (l .most) (at account suc (l .numbers)) (
 abbrev pub stopped : Ledger → Ledger
 stopped l = ledger (l .totals) (l .most) (l .numbers) nobody
 
--- after the frame the calling account's operation runs, if one was begun, and nobody's, if the part is idle: it ended, or a reset stopped it
+-- after the frame the calling account's operation runs, if one was begun, and nobody's, if the part is idle: it ended,
+-- or a reset stopped it
 abbrev pub turned : Bool → Bool → ℕ → Ledger → Ledger
 turned begun idle account l = cond begun (started account l) (cond idle (stopped l) l)
 
@@ -90,7 +94,8 @@ settled busy signals r account l =
 unfoldable pub booked : ℕ → Signals → Reply → ℕ → Ledger → Ledger
 booked busy signals r account l = cond (eqb (r .refusal) 0) (settled busy signals r account l) l
 
--- A month is closed: the tables are empty, and the operation that runs stays its account's, billed nothing so far in the new month.
+-- A month is closed: the tables are empty, and the operation that runs stays its account's, billed nothing so far in
+-- the new month.
 abbrev pub closed : Ledger → Ledger
 closed l = ledger (replicate 256 0) (replicate 256 0) (replicate 256 0) (runs (l .running .account) 0)
 
@@ -98,5 +103,11 @@ closed l = ledger (replicate 256 0) (replicate 256 0) (replicate 256 0) (runs (l
 abbrev pub reported : ℕ → List ℕ → List ℕ → List ℕ → Reported
 reported account totals most numbers =
     cond (isAccount account)
-    (record { refusal = Refusal.Accepted; total = getD totals account 0; most = getD most account 0; number = getD numbers account 0 })
+    (record {
+      refusal = Refusal.Accepted;
+      total = getD totals account 0;
+      most = getD most account 0;
+      number = getD numbers
+          account 0;
+    })
     (record { refusal = Refusal.Account; total = 0; most = 0; number = 0 })

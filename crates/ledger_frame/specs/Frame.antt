@@ -16,7 +16,8 @@ shutOut c lengths account l = eqb (numberFor c lengths) 0 && shut account l
 
 -- what comes back
 unfoldable pub replied : Call → Lengths → ℕ → Ledger → Reply
-replied c lengths account l = cond (shutOut c lengths account l) (refused (numberOf Refusal.Account) (c .device)) (part.replied c lengths)
+replied c lengths account l =
+    cond (shutOut c lengths account l) (refused (numberOf Refusal.Account) (c .device)) (part.replied c lengths)
 
 -- the result of a call: what comes back, what the memories then hold, and the ledger
 pub record Result : Type 0 where

@@ -1,6 +1,6 @@
--- A series of calls through the ledger, each given the record and the ledger that the last one left: what comes back, and what the ledger
--- then says. All of it is computed from the first record, the first ledger, the accounts, and what the turns of a series hold; there is no
--- place for a byte that is stored. Assumes nothing.
+-- A series of calls through the ledger, each given the record and the ledger that the last one left: what comes back,
+-- and what the ledger then says. All of it is computed from the first record, the first ledger, the accounts, and what
+-- the turns of a series hold; there is no place for a byte that is stored. Assumes nothing.
 use Prim.Native.Nat.{ℕ}
 use mathlib.Core.Bool.{cond}
 use mathlib.Core.List.{List, [], _∷_}
@@ -49,7 +49,9 @@ next e b = books (replyTo e (b .device) (b .ledger) .device) (ledgerBy e (b .dev
 
 -- the turn, unless the ledger shut it out with refusal 9
 abbrev pub letThrough : Entry → Books → List Turn
-letThrough e b = cond (through.shutOut (callOf (e .turn) (b .device)) (lengthsOf (e .turn)) (e .account) (b .ledger)) [] (e .turn ∷ [])
+letThrough e b =
+    cond (through.shutOut (callOf (e .turn) (b .device)) (lengthsOf (e .turn)) (e .account) (b .ledger)) []
+    (e .turn ∷ [])
 
 -- a call of a series
 abbrev pub doneOn : Entry → Books → Done

@@ -16,9 +16,12 @@ pub record Whole (l : Ledger) : Type 0 where
   pub most : length (l .most) ≡ 256
   pub numbers : length (l .numbers) ≡ 256
 
--- What the running operation was billed so far is not above its account's most, and with the ticks left it is no more than an operation may take.
+-- What the running operation was billed so far is not above its account's most, and with the ticks left it is no more
+-- than an operation may take.
 abbrev pub Fair : Ledger → ℕ → Type 0
-Fair l busy = l .running .account < 256 → (l .running .billed ≤ getD (l .most) (l .running .account) 0) × (l .running .billed + busy ≤ 60000000)
+Fair l busy =
+    l .running .account < 256 → (l .running .billed ≤ getD (l .most) (l .running .account) 0)
+    × (l .running .billed + busy ≤ 60000000)
 
 -- both
 pub record Right (l : Ledger) (busy : ℕ) : Type 0 where
@@ -31,7 +34,8 @@ rest account r busy p = cond (eqb (r .account) account) (min busy p) 0
 
 -- An account's total in the end: what stood there, the rest of what is running, and the bills of what begins.
 abbrev pub totalAfter : ℕ → Ledger → ℕ → List Done → ℕ
-totalAfter account l busy cs = getD (l .totals) account 0 + (rest account (l .running) busy (passed cs) + sum (bills account (operations cs)))
+totalAfter account l busy cs =
+    getD (l .totals) account 0 + (rest account (l .running) busy (passed cs) + sum (bills account (operations cs)))
 
 -- Its number: what stood there, and how many begin.
 abbrev pub numberAfter : ℕ → Ledger → List Done → ℕ
@@ -40,7 +44,9 @@ numberAfter account l cs = getD (l .numbers) account 0 + length (bills account (
 -- Its most: what stood there, what the running operation is billed in all, or the largest bill of those that begin.
 abbrev pub mostAfter : ℕ → Ledger → ℕ → List Done → ℕ
 mostAfter account l busy cs =
-    max (max (getD (l .most) account 0) (cond (eqb (l .running .account) account) (l .running .billed + min busy (passed cs)) 0))
+    max
+    (max (getD (l .most) account 0)
+    (cond (eqb (l .running .account) account) (l .running .billed + min busy (passed cs)) 0))
     (largest (bills account (operations cs)))
 
 -- What is billed to nobody: the rest of what is running, if it is nobody's.

@@ -1,5 +1,5 @@
--- The operations of a series, each with its account, its duration and the ticks that passed, and what they are billed. It looks at the calls
--- and their answers, and at no ledger. Assumes nothing.
+-- The operations of a series, each with its account, its duration and the ticks that passed, and what they are billed.
+-- It looks at the calls and their answers, and at no ledger. Assumes nothing.
 use Prim.Native.Nat.{ℕ, _+_, min, max}
 use mathlib.Core.Bool.{Bool, cond}
 use mathlib.Core.List.{List, [], _∷_}
@@ -27,8 +27,8 @@ unfoldable pub passed : List Done → ℕ
 passed [] = 0
 passed (c ∷ cs) = cond (accepted c) (ticks c + cond (stops c) 0 (passed cs)) (passed cs)
 
--- An operation: who began it, how long it takes, and how many ticks the calls that were accepted after its frame let pass, up to a reset and
--- with the reset's own.
+-- An operation: who began it, how long it takes, and how many ticks the calls that were accepted after its frame let
+-- pass, up to a reset and with the reset's own.
 pub record Operation : Type 0 where
   pub account : ℕ
   pub duration : ℕ

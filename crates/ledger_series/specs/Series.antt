@@ -45,7 +45,9 @@ end bs t = run.end next bs t
 
 -- the step, unless the ledger shut it out
 abbrev pub letThrough : Booking → Desk → List Step
-letThrough b t = cond (shutOut (callOf (b .step .turn) (t .state .device)) (lengthsOf (b .step .turn)) (b .account) (t .ledger)) [] (b .step ∷ [])
+letThrough b t =
+    cond (shutOut (callOf (b .step .turn) (t .state .device)) (lengthsOf (b .step .turn)) (b .account) (t .ledger)) []
+    (b .step ∷ [])
 
 -- the steps that the ledger let through
 abbrev pub stepsThrough : List Booking → Desk → List Step
@@ -60,7 +62,8 @@ resultThrough b t =
 abbrev pub resultsThrough : List Booking → Desk → List part.Result
 resultsThrough bs t = run.gathered next resultThrough bs t
 
--- A call as the code made it: what it came back with, and what it left of the memories and of the tables that it was lent.
+-- A call as the code made it: what it came back with, and what it left of the memories and of the tables that it was
+-- lent.
 pub record Made : Type 0 where
   pub booked : Booked
   pub lent : Lent
@@ -76,6 +79,7 @@ madeOf c =
       ledger = ledger (c .totals) (c .most) (c .numbers) (c .booked .running);
     }
 
--- The code ran the series and left the last desk: each call meets the contract of `ledger_frame::frame_for` with what the call before it left.
+-- The code ran the series and left the last desk: each call meets the contract of `ledger_frame::frame_for` with what
+-- the call before it left.
 abbrev pub Ran : List Booking → Desk → List Made → Desk → Type 0
 Ran bs t cs u = run.Ran resultOf left madeOf bs t cs u

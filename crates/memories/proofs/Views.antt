@@ -8,10 +8,12 @@ use lib.ListN.{length, drop, length-drop}
 use lib.Seq.{length-take-le}
 use Rattle.memories.specs.Look.{startOf, lengthOf, viewOf}
 
-length-viewed : (memory : List ℕ) (address count : ℕ) → length (viewOf memory address count) ≡ lengthOf memory address count
+length-viewed : (memory : List ℕ) (address count : ℕ) → length (viewOf memory address count)
+    ≡ lengthOf memory address count
 length-viewed memory address count =
     length-take-le (lengthOf memory address count) (drop (startOf memory address) memory)
-    (subst (λ (n : ℕ). lengthOf memory address count ≤ n) (sym (length-drop (startOf memory address) memory)) (omega arith))
+    (subst (λ (n : ℕ). lengthOf memory address count ≤ n) (sym (length-drop (startOf memory address) memory))
+    (omega arith))
 
 -- and 0 if the memory's length is wrong
 pub length-looked : (right : Bool) (memory : List ℕ) (address count : ℕ)

@@ -20,7 +20,8 @@ viewOf memory address count = take (lengthOf memory address count) (drop (startO
 -- the view of the chosen memory; an empty one if that memory's length is wrong
 abbrev pub lookedAt : Memory → List ℕ → List ℕ → ℕ → ℕ → List ℕ
 lookedAt Memory.Array array register address count = cond (isArray (length array)) (viewOf array address count) []
-lookedAt Memory.Register array register address count = cond (isRegister (length register)) (viewOf register address count) []
+lookedAt Memory.Register array register address count =
+    cond (isRegister (length register)) (viewOf register address count) []
 
 -- where in the chosen memory it begins, from the two lengths
 abbrev pub startIn : Memory → ℕ → ℕ → ℕ → ℕ
@@ -30,7 +31,8 @@ startIn Memory.Register array register address = cond (isRegister register) (add
 -- how long it is, from the two lengths
 abbrev pub lengthIn : Memory → ℕ → ℕ → ℕ → ℕ → ℕ
 lengthIn Memory.Array array register address count = cond (isArray array) (min count (array - address % array)) 0
-lengthIn Memory.Register array register address count = cond (isRegister register) (min count (register - address % register)) 0
+lengthIn Memory.Register array register address count =
+    cond (isRegister register) (min count (register - address % register)) 0
 
 -- where it lies: a place of the machine's memory is a block and an offset in it; so many bytes behind a place
 abbrev pub behind : ℕ × ℕ → ℕ → ℕ × ℕ
@@ -38,5 +40,7 @@ behind place n = (place .0, n + place .1)
 
 -- in the chosen memory itself, at the view's start; the empty view for a wrong length begins where that memory does
 abbrev pub lookedFrom : Memory → ℕ × ℕ → ℕ × ℕ → List ℕ → List ℕ → ℕ → ℕ × ℕ
-lookedFrom Memory.Array a r array register address = behind a (startIn Memory.Array (length array) (length register) address)
-lookedFrom Memory.Register a r array register address = behind r (startIn Memory.Register (length array) (length register) address)
+lookedFrom Memory.Array a r array register address =
+    behind a (startIn Memory.Array (length array) (length register) address)
+lookedFrom Memory.Register a r array register address =
+    behind r (startIn Memory.Register (length array) (length register) address)

@@ -5,7 +5,8 @@ use lib.ListN.{getD}
 use Rattle.opcodes.specs.declared.Command.{Command}
 use Rattle.opcodes.specs.declared.Command.the-variants.{Unlisted, Reads, Orders, Works}
 use Rattle.opcodes.specs.declared.Source.the-variants.{Array, Register, Status, Identity, Legacy}
-use Rattle.opcodes.specs.declared.Order.the-variants.{Enable, Disable, DeepPowerDown, UltraDeepPowerDown, Resume, Reset}
+use Rattle.opcodes.specs.declared.Order.the-variants.{Enable, Disable, DeepPowerDown, UltraDeepPowerDown, Resume}
+use Rattle.opcodes.specs.declared.Order.the-variants.{Reset}
 use Rattle.opcodes.specs.declared.Region.the-variants.{Page, Small, Large, Chip}
 use Rattle.opcodes.specs.declared.Work.the-variants.{Program, Erase, Otp, WriteStatus, WriteStatusTwo}
 

@@ -1,6 +1,6 @@
--- The table of opcodes: of each the fewest bytes that it needs, the first position that a read drives and the most positions that it
--- drives, whether it needs a byte boundary, the latch, whether a busy part answers it, whether one in deep power-down does, and what it does.
--- Assumes nothing.
+-- The table of opcodes: of each the fewest bytes that it needs, the first position that a read drives and the most
+-- positions that it drives, whether it needs a byte boundary, the latch, whether a busy part answers it, whether one in
+-- deep power-down does, and what it does. Assumes nothing.
 use Prim.Native.Nat.{ℕ, _^_, _-_}
 use mathlib.Core.Bool.{Bool, true, false, cond}
 use mathlib.Core.List.{List, [], _∷_}
@@ -9,7 +9,8 @@ use Rattle.opcodes.specs.declared.Row.{Row}
 use Rattle.opcodes.specs.declared.Command.{Command}
 use Rattle.opcodes.specs.declared.Command.the-variants.{Unlisted, Reads, Orders, Works}
 use Rattle.opcodes.specs.declared.Source.the-variants.{Array, Register, Status, Identity, Legacy}
-use Rattle.opcodes.specs.declared.Order.the-variants.{Enable, Disable, DeepPowerDown, UltraDeepPowerDown, Resume, Reset}
+use Rattle.opcodes.specs.declared.Order.the-variants.{Enable, Disable, DeepPowerDown, UltraDeepPowerDown, Resume}
+use Rattle.opcodes.specs.declared.Order.the-variants.{Reset}
 use Rattle.opcodes.specs.declared.Region.the-variants.{Page, Small, Large, Chip}
 use Rattle.opcodes.specs.declared.Work.the-variants.{Program, Erase, Otp, WriteStatus, WriteStatusTwo}
 

@@ -5,7 +5,8 @@ use Rattle.opcodes.specs.declared.Row.{Row}
 use Rattle.opcodes.specs.declared.Command.{Command}
 use Rattle.opcodes.specs.declared.Command.the-variants.{Unlisted, Reads, Orders, Works}
 use Rattle.opcodes.specs.declared.Order.{Order}
-use Rattle.opcodes.specs.declared.Order.the-variants.{Enable, Disable, DeepPowerDown, UltraDeepPowerDown, Resume, Reset}
+use Rattle.opcodes.specs.declared.Order.the-variants.{Enable, Disable, DeepPowerDown, UltraDeepPowerDown, Resume}
+use Rattle.opcodes.specs.declared.Order.the-variants.{Reset}
 use Rattle.opcodes.specs.declared.Source.{Source}
 use Rattle.opcodes.specs.declared.Source.the-variants.{Array, Register, Status, Identity, Legacy}
 
@@ -34,7 +35,9 @@ abbrev pub ruleOf : Command → Row → Bool
 -- an opcode that is not listed has no effect of its own
 ruleOf Unlisted r = not (r .latch) && not (r .busy) && silent r
 -- reads need no boundary, no latch and none of their own minimum; data follows the opcode
-ruleOf (Reads source) r = not (r .boundary) && not (r .latch) && Bool·beq (r .busy) (readWhileBusy source) && eqb (r .bytes) 1 && leb 1 (r .first)
+ruleOf (Reads source) r =
+    not (r .boundary) && not (r .latch) && Bool·beq (r .busy) (readWhileBusy source) && eqb (r .bytes) 1 &&
+    leb 1 (r .first)
 -- a control command needs a boundary and no latch
 ruleOf (Orders order) r = r .boundary && not (r .latch) && Bool·beq (r .busy) (orderedWhileBusy order) && silent r
 -- whatever changes a memory or the protection needs the latch and a boundary, and a busy part ignores it

@@ -40,10 +40,12 @@ unfoldable pub since : List Operation → ℕ → List Operation
 since [] k = []
 since (o ∷ os) k = cond (erasedIn (o ∷ os) k) (since os k) (o ∷ os)
 
--- the byte that an operation programs at the place: the last one of its data that aims there; none, where no data byte aims
+-- the byte that an operation programs at the place: the last one of its data that aims there; none, where no data byte
+-- aims
 abbrev pub byteOf : Operation → ℕ → List ℕ
 byteOf none k = []
-byteOf (program size page start sent) k = cond (aimedAt size page start sent k) (last size start sent (length sent) (k - page) 0xFF ∷ []) []
+byteOf (program size page start sent) k =
+    cond (aimedAt size page start sent k) (last size start sent (length sent) (k - page) 0xFF ∷ []) []
 byteOf (erase from to) k = []
 
 -- all bytes programmed at the place, in order

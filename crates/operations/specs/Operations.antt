@@ -1,4 +1,5 @@
--- What a frame does to the array and to the register: an operation on places, and the range that it lies in. Assumes nothing.
+-- What a frame does to the array and to the register: an operation on places, and the range that it lies in. Assumes
+-- nothing.
 use Prim.Native.Nat.{ℕ, _+_, _*_, _/_, _%_}
 use mathlib.Core.List.{List}
 use lib.ListN.{drop}
@@ -11,7 +12,8 @@ use Rattle.judge.specs.declared.Action.{Action}
 use Rattle.calls.specs.Address.{addressOf}
 use Rattle.operations.specs.declared.Range.{Range}
 
--- no operation; a program of the page of `size` bytes at `page`, whose first data byte aims at the offset `start`; an erase of a range
+-- no operation; a program of the page of `size` bytes at `page`, whose first data byte aims at the offset `start`; an
+-- erase of a range
 pub data Operation : Type 0 where
   none : Operation
   program : (size page start : ℕ) (sent : List ℕ) → Operation

@@ -40,6 +40,8 @@ resets c r = awake (c .device .mode) && (isReset (rowOf (factsOf c .code) .comma
 abbrev pub lastsFor : Call → ℕ
 lastsFor c = lasts (rowOf (factsOf c .code) .command) (c .settings) (factsOf c)
 
--- the busy ticks that an accepted call leaves: all of an operation that it began, none after a reset, and otherwise what its ticks left
+-- the busy ticks that an accepted call leaves: all of an operation that it began, none after a reset, and otherwise
+-- what its ticks left
 abbrev pub busyAfter : Call → Reply → ℕ
-busyAfter c r = cond (eqt (r .outcome) "begun") (lastsFor c) (cond (resets c r) 0 (c .device .busy - ticksOf (c .signals)))
+busyAfter c r =
+    cond (eqt (r .outcome) "begun") (lastsFor c) (cond (resets c r) 0 (c .device .busy - ticksOf (c .signals)))

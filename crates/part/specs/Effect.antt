@@ -7,8 +7,8 @@ use Rattle.calls.specs.declared.Lengths.{Lengths}
 use Rattle.part.specs.Frame.{Call, numberFor, risen, factsOf}
 use Rattle.operations.specs.Operations.{Operation, onArray}
 
--- the call is accepted, and the frame is a program or an erase, complete, on a boundary, with WEL 1, the part awake, idle at the frame's
--- first bit, BP0 0
+-- the call is accepted, and the frame is a program or an erase, complete, on a boundary, with WEL 1, the part awake,
+-- idle at the frame's first bit, BP0 0
 abbrev pub takesEffect : Call → Lengths → Bool
 takesEffect c lengths = eqb (numberFor c lengths) 0 && ready (risen c) (factsOf c)
 

@@ -1,4 +1,5 @@
--- One call, one chip-select frame: what comes back and what the lent memories then hold, from what is handed in. Assumes nothing.
+-- One call, one chip-select frame: what comes back and what the lent memories then hold, from what is handed in.
+-- Assumes nothing.
 use Prim.Native.Nat.{ℕ}
 use Prim.Native.String.{String}
 use mathlib.Core.Bool.{Bool, cond}
@@ -28,8 +29,8 @@ use Rattle.operations.specs.declared.Range.{Range}
 use Rattle.operations.specs.Operations.{cellOf, onArray, onRegister, nowhere, rangeOf}
 use Rattle.output.specs.Output.{store, readAt}
 
--- what a call is handed, beside the memories: the record, the settings, the input bytes, and the bits clocked, WP's level, the ticks
--- elapsed and the ticks per byte position
+-- what a call is handed, beside the memories: the record, the settings, the input bytes, and the bits clocked, WP's
+-- level, the ticks elapsed and the ticks per byte position
 pub record Call : Type 0 where
   pub device : Device
   pub settings : Settings
@@ -63,7 +64,14 @@ pub record Result : Type 0 where
   pub lent : Lent
 
 abbrev pub lengthsOf : Call → Lent → Lengths
-lengthsOf c m = record { array = length (m .array); register = length (m .register); input = length (c .input); output = length (m .output) }
+lengthsOf c m =
+    record {
+      array = length (m .array);
+      register = length (m .register);
+      input = length (c .input);
+      output = length
+          (m .output);
+    }
 
 -- the number of its refusal; 0 if there is none
 unfoldable pub numberFor : Call → Lengths → ℕ
@@ -108,23 +116,34 @@ coveredBy j c lengths = rangeOf (onArray (j .action) (lengths .array) (c .input)
 -- what comes back from an accepted call
 abbrev pub answered : Judged → Range → Reply
 answered j covered =
-    record { refusal = 0; outcome = wordOf (j .outcome); first = j .first; driven = j .driven; covered = covered; device = j .device }
+    record {
+      refusal = 0;
+      outcome = wordOf (j .outcome);
+      first = j .first;
+      driven = j .driven;
+      covered = covered;
+      device
+          = j .device;
+    }
 
 -- and from a refused one: its number, the record untouched, nothing driven, nothing covered
 abbrev pub refused : ℕ → Device → Reply
-refused number d = record { refusal = number; outcome = "nothing"; first = 0; driven = 0; covered = nowhere; device = d }
+refused number d =
+    record { refusal = number; outcome = "nothing"; first = 0; driven = 0; covered = nowhere; device = d }
 
 -- from a call that somebody above the part turns away, for a refusal of their own: the part's comes first
 abbrev pub turnedAway : ℕ → Call → Lent → Reply
-turnedAway number c m = refused (cond (eqb (numberFor c (lengthsOf c m)) 0) number (numberFor c (lengthsOf c m))) (c .device)
+turnedAway number c m =
+    refused (cond (eqb (numberFor c (lengthsOf c m)) 0) number (numberFor c (lengthsOf c m))) (c .device)
 
 -- what comes back: of the memories only the lengths bear on it
 unfoldable pub replied : Call → Lengths → Reply
 replied c lengths =
-    cond (eqb (numberFor c lengths) 0) (answered (judgedOf c) (coveredBy (judgedOf c) c lengths)) (refused (numberFor c lengths) (c .device))
+    cond (eqb (numberFor c lengths) 0) (answered (judgedOf c) (coveredBy (judgedOf c) c lengths))
+    (refused (numberFor c lengths) (c .device))
 
--- what the memories then hold, by what was judged and how the record stood: the operations took effect, and of the output the first n
--- bytes are written
+-- what the memories then hold, by what was judged and how the record stood: the operations took effect, and of the
+-- output the first n bytes are written
 abbrev pub arrayAfter : Judged → Call → Lent → List ℕ
 arrayAfter j c m = each (cellOf (onArray (j .action) (length (m .array)) (c .input))) (m .array)
 
@@ -135,7 +154,8 @@ abbrev pub outputAfter : Judged → (ℕ → Device) → Call → Lent → List 
 outputAfter j stand c m =
     each
     (stored (range 0 (length (c .input)))
-    (readAt j stand (c .signals .wp) (c .signals .bits) (store (m .array)) (store (m .register)) (c .input))) (m .output)
+    (readAt j stand (c .signals .wp) (c .signals .bits) (store (m .array)) (store (m .register)) (c .input)))
+    (m .output)
 
 abbrev pub lentBy : Judged → (ℕ → Device) → Call → Lent → Lent
 lentBy j stand c m = lent (arrayAfter j c m) (registerAfter j c m) (outputAfter j stand c m)
@@ -171,7 +191,8 @@ abbrev pub resultOf : Answer → Lent → Result
 resultOf a m = record { reply = replyOf a; lent = m }
 
 abbrev pub refusing : Refusal → Device → Answer
-refusing refusal d = record { refusal = refusal; outcome = Outcome.Nothing; first = 0; driven = 0; covered = nowhere; device = d }
+refusing refusal d =
+    record { refusal = refusal; outcome = Outcome.Nothing; first = 0; driven = 0; covered = nowhere; device = d }
 
 -- the contract of a call: its answer and what it leaves of the lent memories are the frame's
 abbrev pub Meets : Call → Lent → Answer → Lent → Type 0

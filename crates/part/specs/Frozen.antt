@@ -1,5 +1,6 @@
--- A frame as document 01 has it: it takes no time, so it is judged and does what it does by the record at its first bit, and each position
--- shows that record. With 0 ticks per byte position a frame is this; that is a law. Assumes nothing.
+-- A frame as document 01 has it: it takes no time, so it is judged and does what it does by the record at its first
+-- bit, and each position shows that record. With 0 ticks per byte position a frame is this; that is a law. Assumes
+-- nothing.
 use Prim.Native.Nat.{ℕ}
 use mathlib.Core.Bool.{cond}
 use lib.Dec.{eqb}
@@ -26,6 +27,7 @@ abbrev pub frozen : Call → Lent → Result
 frozen c m =
     let number = frozenNumber c (lengthsOf c m) in
     record {
-      reply = cond (eqb number 0) (answered (frozenJudged c) (coveredBy (frozenJudged c) c (lengthsOf c m))) (refused number (c .device));
+      reply = cond (eqb number 0) (answered (frozenJudged c) (coveredBy (frozenJudged c) c (lengthsOf c m)))
+          (refused number (c .device));
       lent = cond (eqb number 0) (lentBy (frozenJudged c) (λ k. timed c) c m) m;
     }

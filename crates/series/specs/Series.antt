@@ -32,7 +32,8 @@ pub record State : Type 0 where
   pub array : List ℕ
   pub register : List ℕ
 
--- A call is lent n bytes, from the memory's first on; where it has fewer, those behind its end follow, which are not its own.
+-- A call is lent n bytes, from the memory's first on; where it has fewer, those behind its end follow, which are not
+-- its own.
 abbrev pub lentOf : ℕ → List ℕ → (ℕ → ℕ) → List ℕ
 lentOf n memory behind = each (λ k x. getD memory k (behind k)) (replicate n 0)
 
@@ -42,7 +43,8 @@ returned after memory = each (stored (range 0 (length after)) (λ k. getD after 
 
 abbrev pub lentTo : Step → State → Lent
 lentTo s t =
-    lent (lentOf (s .turn .array) (t .array) (s .behind .array)) (lentOf (s .turn .register) (t .register) (s .behind .register))
+    lent (lentOf (s .turn .array) (t .array) (s .behind .array))
+    (lentOf (s .turn .register) (t .register) (s .behind .register))
     (lentOf (s .turn .output) (s .buffer) (s .behind .output))
 
 -- a call
@@ -76,7 +78,7 @@ pub record Made : Type 0 where
 abbrev pub madeOf : Made → Result
 madeOf c = part.resultOf (c .answer) (c .lent)
 
--- The code ran the series and left the last state: each call meets the contract of `part::frame` with the record that the call
--- before it returned and the memories that it left.
+-- The code ran the series and left the last state: each call meets the contract of `part::frame` with the record that
+-- the call before it returned and the memories that it left.
 abbrev pub Ran : List Step → State → List Made → State → Type 0
 Ran ss t cs u = run.Ran resultOf left madeOf ss t cs u

@@ -1,6 +1,6 @@
--- A series of calls, each given the record that the last one returned: what comes back, and which operations on the array take
--- effect. All of it is computed from the first record, the settings, the frames with their levels and ticks, and the lengths of what
--- is lent; no type here has a place for a byte that is stored. Assumes nothing.
+-- A series of calls, each given the record that the last one returned: what comes back, and which operations on the
+-- array take effect. All of it is computed from the first record, the settings, the frames with their levels and ticks,
+-- and the lengths of what is lent; no type here has a place for a byte that is stored. Assumes nothing.
 use Prim.Native.Nat.{ℕ}
 use mathlib.Core.Bool.{cond}
 use mathlib.Core.List.{List, [], _∷_}
@@ -15,8 +15,9 @@ use Rattle.operations.specs.Operations.{Operation, onArray, onRegister}
 use Rattle.part.specs.Frame.{Call, Reply, call, numberFor, judgedOf, replied}
 use Rattle.part.specs.Effect.{takesEffect, operationOf}
 
--- What a call is handed beside the record: the settings, the input bytes, the bits clocked with WP's level, the ticks elapsed and the
--- ticks per byte position, and how many bytes of array, register and output it is lent, which may be any numbers.
+-- What a call is handed beside the record: the settings, the input bytes, the bits clocked with WP's level, the ticks
+-- elapsed and the ticks per byte position, and how many bytes of array, register and output it is lent, which may be
+-- any numbers.
 pub record Turn : Type 0 where
   pub settings : Settings
   pub input : List ℕ
@@ -42,10 +43,12 @@ effectOf t d = cond (takesEffect (callOf t d) (lengthsOf t)) (operationOf (callO
 -- what an accepted call does to array and register, by its action
 abbrev pub doneOf : Turn → Device → List Operation
 doneOf t d =
-    cond (eqb (numberFor (callOf t d) (lengthsOf t)) 0) (onArray (judgedOf (callOf t d) .action) (t .array) (t .input) ∷ []) []
+    cond (eqb (numberFor (callOf t d) (lengthsOf t)) 0)
+    (onArray (judgedOf (callOf t d) .action) (t .array) (t .input) ∷ []) []
 
 abbrev pub onceOf : Turn → Device → List Operation
-onceOf t d = cond (eqb (numberFor (callOf t d) (lengthsOf t)) 0) (onRegister (judgedOf (callOf t d) .action) (t .input) ∷ []) []
+onceOf t d =
+    cond (eqb (numberFor (callOf t d) (lengthsOf t)) 0) (onRegister (judgedOf (callOf t d) .action) (t .input) ∷ []) []
 
 -- and the record that goes on to the next call
 abbrev pub onward : Turn → Device → Device

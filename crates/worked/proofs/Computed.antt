@@ -1,5 +1,5 @@
--- A row's tests, computed from lengths, frames and operations, without the list of a memory's bytes: definitions alone, so that a row can
--- be tried where no law stands. Assumes nothing.
+-- A row's tests, computed from lengths, frames and operations, without the list of a memory's bytes: definitions alone,
+-- so that a row can be tried where no law stands. Assumes nothing.
 use Prim.Native.Nat.{ℕ, zero, suc, _+_, _^_}
 use mathlib.Core.Bool.{Bool, true, false, cond, _&&_, _||_}
 use mathlib.Core.List.{List, [], _∷_, _++_, map}
@@ -27,7 +27,8 @@ unfoldable pub everywhere : (ℕ → Bool) → (ℕ → ℕ → Bool) → ℕ �
 unfolding halved
 everywhere test steady zero low = test low
 everywhere test steady (suc h) low =
-    halved (steady low (2 ^ suc h)) (test low) (λ u. everywhere test steady h low && everywhere test steady h (low + 2 ^ h))
+    halved (steady low (2 ^ suc h)) (test low)
+    (λ u. everywhere test steady h low && everywhere test steady h (low + 2 ^ h))
 
 -- what it held at first, and the operations since then, in order
 pub record Told : Type 0 where
@@ -92,7 +93,8 @@ pub record Scene : Type 0 where
 abbrev pub written : Call → Store → Store → List ℕ → List ℕ
 written c array register buffer =
     each
-    (stored (range 0 (length (c .input))) (readAt (judgedOf c) (standsAt c) (c .signals .wp) (c .signals .bits) array register (c .input)))
+    (stored (range 0 (length (c .input)))
+    (readAt (judgedOf c) (standsAt c) (c .signals .wp) (c .signals .bits) array register (c .input)))
     buffer
 
 unfoldable pub cameTold : Step → Scene → Came

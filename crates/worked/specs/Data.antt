@@ -1,4 +1,5 @@
--- Rows of array and register, worked by hand: data that differs at each place, both sizes of the array, high addresses. Assumes nothing.
+-- Rows of array and register, worked by hand: data that differs at each place, both sizes of the array, high addresses.
+-- Assumes nothing.
 use Prim.Native.Nat.{ℕ}
 use mathlib.Core.Bool.{true, false}
 use mathlib.Core.List.{List, [], _∷_, _++_}
@@ -7,7 +8,9 @@ use Rattle.device.specs.declared.Device.{Device}
 use Rattle.device.specs.declared.Mode.the-variants.{Awake}
 use Rattle.worked.specs.Worked.{Exchange, Piece, Row}
 use Rattle.worked.specs.Frames.{latched, longer, on-array, reads, orders}
-use Rattle.worked.specs.Words.{held, stands, idle, enabled, busy, counting, clocked, whole, low, pulled, paced, came, quiet, begun, _⇒_, unmoved, aborting, piece, rising, bytes, row, lasting, sized, holding, registered}
+use Rattle.worked.specs.Words.{held, stands, idle, enabled, busy, counting, clocked, whole, low, pulled, paced}
+use Rattle.worked.specs.Words.{came, quiet, begun, _⇒_, unmoved, aborting, piece, rising, bytes, row, lasting}
+use Rattle.worked.specs.Words.{sized, holding, registered}
 
 -- with WEL 0 none is carried out, whatever the other flags
 abbrev without-wel : Device → Row
@@ -15,21 +18,30 @@ without-wel d = row d 0x00 (unmoved "nothing" d latched) []
 
 -- busy, none is and WEL stays; nor is any other command then but 05 and F0, which wants D0
 abbrev while-busy : Device → Row
-while-busy d = row d 0x00 (unmoved "nothing" d (latched ++ reads ++ orders ++ ((0xAB ∷ []) ∷ (0x00 ∷ []) ∷ (0xF0 ∷ 0xD1 ∷ []) ∷ (0x02 ∷ 0xD0 ∷ []) ∷ []))) []
+while-busy d =
+    row d 0x00
+    (unmoved "nothing" d
+    (latched ++ reads ++ orders ++ ((0xAB ∷ []) ∷ (0x00 ∷ []) ∷ (0xF0 ∷ 0xD1 ∷ []) ∷ (0x02 ∷ 0xD0 ∷ []) ∷ []))) []
 
--- off a boundary each is aborted, though it is complete without the byte of which four bits were clocked, or two, or seven
+-- off a boundary each is aborted, though it is complete without the byte of which four bits were clocked, or two, or
+-- seven
 abbrev cut-by-four : Row
-cut-by-four = row (held true false true true false Awake 0) 0x00 (aborting 4 (held true false true true false Awake 0) (held true false false true false Awake 0) longer) []
+cut-by-four =
+    row (held true false true true false Awake 0) 0x00
+    (aborting 4 (held true false true true false Awake 0) (held true false false true false Awake 0) longer) []
 
 abbrev cut-by-six : Row
-cut-by-six = row (held false true true false true Awake 0) 0x00 (aborting 6 (held false true true false true Awake 0) (held false true false false true Awake 0) longer) []
+cut-by-six =
+    row (held false true true false true Awake 0) 0x00
+    (aborting 6 (held false true true false true Awake 0) (held false true false false true Awake 0) longer) []
 
 abbrev cut-by-one : Row
 cut-by-one = row enabled 0x00 (aborting 1 enabled idle longer) []
 
 -- protected by BP0: BPL does not bear on it
 abbrev guarded-array : Row
-guarded-array = row (stands false true true 0) 0x00 (aborting 0 (stands false true true 0) (stands false true false 0) on-array) []
+guarded-array =
+    row (stands false true true 0) 0x00 (aborting 0 (stands false true true 0) (stands false true false 0) on-array) []
 
 -- a part with BPL 1 and BP0 0, the OTP-used mark and RSTE 1; WEL and busy as said
 abbrev worn : ℕ → Device
@@ -54,7 +66,8 @@ programs-four-small =
 
 -- a byte of FFh is programmed too, though nothing changes
 abbrev programs-ff : Row
-programs-ff = row enabled 0x3C ((low (0x02 ∷ 0x00 ∷ 0x12 ∷ 0x00 ∷ 0xFF ∷ []) 0 ⇒ begun 0x1200 0x1300 (busy 12) 5) ∷ []) []
+programs-ff =
+    row enabled 0x3C ((low (0x02 ∷ 0x00 ∷ 0x12 ∷ 0x00 ∷ 0xFF ∷ []) 0 ⇒ begun 0x1200 0x1300 (busy 12) 5) ∷ []) []
 
 -- two data bytes take the longer duration, at a page's last offset the second goes to its first
 abbrev programs-two : Row
@@ -89,7 +102,8 @@ abbrev programs-300 : Row
 programs-300 =
     sized 65536
     (row enabled 0xFF
-    ((whole (0x02 ∷ 0x01 ∷ 0x05 ∷ 0x10 ∷ (replicate 44 0x00 ++ counting 0x05 256)) 0 ⇒ begun 0x500 0x600 (busy 2000) 304) ∷ [])
+    ((whole (0x02 ∷ 0x01 ∷ 0x05 ∷ 0x10 ∷ (replicate 44 0x00 ++ counting 0x05 256)) 0
+    ⇒ begun 0x500 0x600 (busy 2000) 304) ∷ [])
     (rising 0x53C 0x600 0x05 ∷ rising 0x500 0x53C 0xC9 ∷ []))
 
 -- a register whose user's 64 bytes hold 3Ch, and the factory's 80h and on
@@ -100,9 +114,11 @@ made = piece 0 64 0x3C ∷ rising 64 128 0x80 ∷ []
 abbrev erasing : ℕ → List ℕ → ℕ → ℕ → ℕ → Row
 erasing size frame ticks from to =
     registered 128 made []
-    (sized size (row worn-enabled 0x00 ((low frame 0 ⇒ begun from to (worn ticks) (length frame)) ∷ []) (piece from to 0xFF ∷ [])))
+    (sized size
+    (row worn-enabled 0x00 ((low frame 0 ⇒ begun from to (worn ticks) (length frame)) ∷ []) (piece from to 0xFF ∷ [])))
 
--- Reads, of an array that holds 11h but here: at its beginning, around 010000h, at its end, and at two places that one address bit tells apart
+-- Reads, of an array that holds 11h but here: at its beginning, around 010000h, at its end, and at two places that one
+-- address bit tells apart
 abbrev landmarks : List Piece
 landmarks =
     rising 0x0 0x10 0x40 ∷
@@ -121,15 +137,20 @@ abbrev reads-large : Row
 reads-large =
     holding landmarks
     (row (worn 0) 0x11
-    ((low (0x03 ∷ 0x00 ∷ 0xFF ∷ 0xFE ∷ 0x00 ∷ 0x00 ∷ 0x00 ∷ 0x00 ∷ []) 0 ⇒ came "read" 4 4 (worn 0) (header ++ (0x8E ∷ 0x8F ∷ 0xA0 ∷ 0xA1 ∷ []))) ∷
-    (whole (0x03 ∷ 0x01 ∷ 0xFF ∷ 0xFE ∷ 0x00 ∷ 0x00 ∷ 0x00 ∷ 0x00 ∷ []) 0 ⇒ came "read" 4 4 (worn 0) (header ++ (0xCE ∷ 0xCF ∷ 0x40 ∷ 0x41 ∷ []))) ∷
+    ((low (0x03 ∷ 0x00 ∷ 0xFF ∷ 0xFE ∷ 0x00 ∷ 0x00 ∷ 0x00 ∷ 0x00 ∷ []) 0
+    ⇒ came "read" 4 4 (worn 0) (header ++ (0x8E ∷ 0x8F ∷ 0xA0 ∷ 0xA1 ∷ []))) ∷
+    (whole (0x03 ∷ 0x01 ∷ 0xFF ∷ 0xFE ∷ 0x00 ∷ 0x00 ∷ 0x00 ∷ 0x00 ∷ []) 0
+    ⇒ came "read" 4 4 (worn 0) (header ++ (0xCE ∷ 0xCF ∷ 0x40 ∷ 0x41 ∷ []))) ∷
     (low (0x03 ∷ 0x01 ∷ 0x23 ∷ 0x45 ∷ 0x00 ∷ []) 0 ⇒ came "read" 4 1 (worn 0) (header ++ (0x5B ∷ []))) ∷
     (whole (0x03 ∷ 0x00 ∷ 0x23 ∷ 0x45 ∷ 0x00 ∷ []) 0 ⇒ came "read" 4 1 (worn 0) (header ++ (0x6C ∷ []))) ∷
     (low (0x03 ∷ 0x02 ∷ 0x23 ∷ 0x45 ∷ 0x00 ∷ []) 0 ⇒ came "read" 4 1 (worn 0) (header ++ (0x6C ∷ []))) ∷
     (whole (0x03 ∷ 0xFF ∷ 0x23 ∷ 0x45 ∷ 0x00 ∷ []) 0 ⇒ came "read" 4 1 (worn 0) (header ++ (0x5B ∷ []))) ∷
-    (low (0x0B ∷ 0x01 ∷ 0xFF ∷ 0xFE ∷ 0x12 ∷ 0x00 ∷ 0x00 ∷ 0x00 ∷ []) 0 ⇒ came "read" 5 3 (worn 0) (header ++ (0xFF ∷ 0xCE ∷ 0xCF ∷ 0x40 ∷ []))) ∷
-    (whole (0x03 ∷ 0x00 ∷ 0x00 ∷ 0x00 ∷ replicate 20 0x00) 0 ⇒ came "read" 4 20 (worn 0) (header ++ counting 0x40 16 ++ replicate 4 0x11)) ∷
-    (clocked 44 (0x03 ∷ 0x00 ∷ 0x00 ∷ 0x00 ∷ 0x00 ∷ 0x00 ∷ []) 0 ⇒ came "read" 4 2 (worn 0) (header ++ (0x40 ∷ 0x4F ∷ []))) ∷
+    (low (0x0B ∷ 0x01 ∷ 0xFF ∷ 0xFE ∷ 0x12 ∷ 0x00 ∷ 0x00 ∷ 0x00 ∷ []) 0
+    ⇒ came "read" 5 3 (worn 0) (header ++ (0xFF ∷ 0xCE ∷ 0xCF ∷ 0x40 ∷ []))) ∷
+    (whole (0x03 ∷ 0x00 ∷ 0x00 ∷ 0x00 ∷ replicate 20 0x00) 0
+    ⇒ came "read" 4 20 (worn 0) (header ++ counting 0x40 16 ++ replicate 4 0x11)) ∷
+    (clocked 44 (0x03 ∷ 0x00 ∷ 0x00 ∷ 0x00 ∷ 0x00 ∷ 0x00 ∷ []) 0
+    ⇒ came "read" 4 2 (worn 0) (header ++ (0x40 ∷ 0x4F ∷ []))) ∷
     [])
     [])
 
@@ -138,10 +159,12 @@ reads-small =
     sized 65536
     (holding (rising 0x0 0x10 0x40 ∷ rising 0xFFF0 0x10000 0x80 ∷ piece 0x2345 0x2346 0x6C ∷ [])
     (row idle 0x11
-    ((whole (0x03 ∷ 0x00 ∷ 0xFF ∷ 0xFE ∷ 0x00 ∷ 0x00 ∷ 0x00 ∷ 0x00 ∷ []) 0 ⇒ came "read" 4 4 idle (header ++ (0x8E ∷ 0x8F ∷ 0x40 ∷ 0x41 ∷ []))) ∷
+    ((whole (0x03 ∷ 0x00 ∷ 0xFF ∷ 0xFE ∷ 0x00 ∷ 0x00 ∷ 0x00 ∷ 0x00 ∷ []) 0
+    ⇒ came "read" 4 4 idle (header ++ (0x8E ∷ 0x8F ∷ 0x40 ∷ 0x41 ∷ []))) ∷
     (low (0x03 ∷ 0x01 ∷ 0x00 ∷ 0x00 ∷ 0x00 ∷ 0x00 ∷ []) 0 ⇒ came "read" 4 2 idle (header ++ (0x40 ∷ 0x41 ∷ []))) ∷
     (whole (0x03 ∷ 0x01 ∷ 0x23 ∷ 0x45 ∷ 0x00 ∷ []) 0 ⇒ came "read" 4 1 idle (header ++ (0x6C ∷ []))) ∷
-    (low (0x0B ∷ 0xFF ∷ 0xFF ∷ 0xFF ∷ 0x00 ∷ 0x00 ∷ 0x00 ∷ []) 0 ⇒ came "read" 5 2 idle (header ++ (0xFF ∷ 0x8F ∷ 0x40 ∷ []))) ∷
+    (low (0x0B ∷ 0xFF ∷ 0xFF ∷ 0xFF ∷ 0x00 ∷ 0x00 ∷ 0x00 ∷ []) 0
+    ⇒ came "read" 5 2 idle (header ++ (0xFF ∷ 0x8F ∷ 0x40 ∷ []))) ∷
     [])
     []))
 
@@ -181,7 +204,8 @@ short-reads d =
     (clocked 10 (0x15 ∷ 0x00 ∷ []) 0 ⇒ came "read" 1 1 d (0xFF ∷ 0x3F ∷ [])) ∷
     (clocked 9 (0x0B ∷ 0x00 ∷ []) 0 ⇒ quiet "read" d 2) ∷
     (clocked 44 (0x0B ∷ 0x00 ∷ 0x00 ∷ 0x00 ∷ 0x00 ∷ 0x00 ∷ []) 0 ⇒ came "read" 5 1 d (header ++ (0xFF ∷ 0x1F ∷ []))) ∷
-    (clocked 52 (0x77 ∷ 0x00 ∷ 0x00 ∷ 0x40 ∷ 0x00 ∷ 0x00 ∷ 0x00 ∷ []) 0 ⇒ came "read" 6 1 d (header ++ (0xFF ∷ 0xFF ∷ 0x8F ∷ []))) ∷
+    (clocked 52 (0x77 ∷ 0x00 ∷ 0x00 ∷ 0x40 ∷ 0x00 ∷ 0x00 ∷ 0x00 ∷ []) 0
+    ⇒ came "read" 6 1 d (header ++ (0xFF ∷ 0xFF ∷ 0x8F ∷ []))) ∷
     []))
     []
 
@@ -190,7 +214,10 @@ abbrev clip : ℕ → ℕ → Exchange
 clip bits shown = pulled (clocked bits (0x05 ∷ 0x00 ∷ []) 0) ⇒ came "read" 1 1 idle (0xFF ∷ shown ∷ [])
 
 abbrev clipped : Row
-clipped = row idle 0xFF (clip 9 0x7F ∷ clip 10 0x3F ∷ clip 11 0x1F ∷ clip 12 0x0F ∷ clip 13 0x07 ∷ clip 14 0x03 ∷ clip 15 0x01 ∷ clip 16 0x00 ∷ []) []
+clipped =
+    row idle 0xFF
+    (clip 9 0x7F ∷ clip 10 0x3F ∷ clip 11 0x1F ∷ clip 12 0x0F ∷ clip 13 0x07 ∷ clip 14 0x03 ∷ clip 15 0x01 ∷
+    clip 16 0x00 ∷ []) []
 
 -- 20 status bytes at 3 ticks a position, 50 ticks left: the 16th begins after 48, the 17th after 51
 abbrev alternating : List ℕ
@@ -210,7 +237,8 @@ long-poll =
     came "read" 1 20 idle (0xFF ∷ (sixteen ++ (0x10 ∷ 0x00 ∷ 0x10 ∷ 0x00 ∷ [])))) ∷ [])
     []
 
--- ticks of more than 32 bits, and positions that take more than 16 bits of ticks together: 66 at 1,000 each leave one of 66,001
+-- ticks of more than 32 bits, and positions that take more than 16 bits of ticks together: 66 at 1,000 each leave one
+-- of 66,001
 abbrev long-times : Row
 long-times =
     row (busy 66001) 0xFF
@@ -221,9 +249,12 @@ long-times =
     []
 
 abbrev longer-times : Row
-longer-times = row (busy 60000000) 0xFF ((low (0x05 ∷ 0x00 ∷ []) 9223372036854775808 ⇒ came "read" 1 1 idle (0xFF ∷ 0x00 ∷ [])) ∷ []) []
+longer-times =
+    row (busy 60000000) 0xFF ((low (0x05 ∷ 0x00 ∷ []) 9223372036854775808 ⇒ came "read" 1 1 idle (0xFF ∷ 0x00 ∷ [])) ∷
+    []) []
 
--- Other durations, on the small array, at 8 ticks a position: each operation lasts its own, and 06 is heard when as many have passed
+-- Other durations, on the small array, at 8 ticks a position: each operation lasts its own, and 06 is heard when as
+-- many have passed
 abbrev lasts : ℕ → Device
 lasts ticks = held false false false true false Awake ticks
 
@@ -258,7 +289,8 @@ other-times =
     once-more 0 ∷
     (paced 8 (low (0x01 ∷ 0x00 ∷ []) 0) ⇒ quiet "begun" (lasts 23) 2) ∷
     once-more 23 ∷
-    (paced 8 (low (0x9B ∷ 0x00 ∷ 0x00 ∷ 0x02 ∷ 0x5A ∷ []) 0) ⇒ quiet "begun" (held false false false true true Awake 19) 5) ∷
+    (paced 8 (low (0x9B ∷ 0x00 ∷ 0x00 ∷ 0x02 ∷ 0x5A ∷ []) 0)
+    ⇒ quiet "begun" (held false false false true true Awake 19) 5) ∷
     [])
     (piece 0 0x10000 0xFF ∷ []))))
 
@@ -267,11 +299,14 @@ abbrev otp-anded : Row
 otp-anded =
     registered 128 made (bytes 62 (0x0C ∷ 0x30 ∷ []) ++ bytes 0 (0x14 ∷ []))
     (row (held true true true true false Awake 0) 0x3C
-    ((low (0x9B ∷ 0x12 ∷ 0x34 ∷ 0xFE ∷ 0x0F ∷ 0x33 ∷ 0x55 ∷ []) 0 ⇒ quiet "begun" (held true true false true true Awake 400) 7) ∷
+    ((low (0x9B ∷ 0x12 ∷ 0x34 ∷ 0xFE ∷ 0x0F ∷ 0x33 ∷ 0x55 ∷ []) 0
+    ⇒ quiet "begun" (held true true false true true Awake 400) 7) ∷
     (low (0x77 ∷ 0x00 ∷ 0x00 ∷ 0x3E ∷ 0x00 ∷ 0x00 ∷ 0x00 ∷ 0x00 ∷ 0x00 ∷ 0x00 ∷ []) 400 ⇒
-    came "read" 6 4 (held true true false true true Awake 0) (header ++ (0xFF ∷ 0xFF ∷ 0x0C ∷ 0x30 ∷ 0x80 ∷ 0x81 ∷ []))) ∷
+    came "read" 6 4 (held true true false true true Awake 0) (header ++ (0xFF ∷ 0xFF ∷ 0x0C ∷ 0x30 ∷ 0x80 ∷ 0x81 ∷ [])))
+    ∷
     (whole (0x77 ∷ 0xFF ∷ 0xFF ∷ 0xFE ∷ 0x00 ∷ 0x00 ∷ 0x00 ∷ 0x00 ∷ 0x00 ∷ 0x00 ∷ []) 0 ⇒
-    came "read" 6 4 (held true true false true true Awake 0) (header ++ (0xFF ∷ 0xFF ∷ 0xBE ∷ 0xBF ∷ 0x14 ∷ 0x3C ∷ []))) ∷
+    came "read" 6 4 (held true true false true true Awake 0) (header ++ (0xFF ∷ 0xFF ∷ 0xBE ∷ 0xBF ∷ 0x14 ∷ 0x3C ∷ [])))
+    ∷
     [])
     [])
 
@@ -291,7 +326,8 @@ abbrev otp-seventy : Row
 otp-seventy =
     registered 128 (rising 64 128 0x80 ∷ []) (rising 16 64 0x01 ∷ rising 0 16 0x31 ∷ [])
     (row enabled 0xFF
-    ((low (0x9B ∷ 0x00 ∷ 0x00 ∷ 0x0A ∷ (replicate 6 0x00 ++ counting 0x01 64)) 0 ⇒ quiet "begun" (held false false false false true Awake 400) 74) ∷ [])
+    ((low (0x9B ∷ 0x00 ∷ 0x00 ∷ 0x0A ∷ (replicate 6 0x00 ++ counting 0x01 64)) 0
+    ⇒ quiet "begun" (held false false false false true Awake 400) 74) ∷ [])
     [])
 
 -- with the mark 1 it is aborted, and so is one that is short; then the mark stays as it was
@@ -299,7 +335,8 @@ abbrev otp-used : Row
 otp-used =
     registered 128 made []
     (row (held false true true true true Awake 0) 0xFF
-    ((whole (0x9B ∷ 0x00 ∷ 0x00 ∷ 0x00 ∷ 0x00 ∷ []) 0 ⇒ quiet "aborted" (held false true false true true Awake 0) 5) ∷ [])
+    ((whole (0x9B ∷ 0x00 ∷ 0x00 ∷ 0x00 ∷ 0x00 ∷ []) 0 ⇒ quiet "aborted" (held false true false true true Awake 0) 5) ∷
+    [])
     [])
 
 unfoldable pub data-rows : List Row

@@ -1,5 +1,5 @@
--- A series worked by hand, on 131,072 bytes that hold F7h at first: two programs, an erase, three refused calls, a reset and a program, with
--- what demand 3 says of it. Assumes nothing.
+-- A series worked by hand, on 131,072 bytes that hold F7h at first: two programs, an erase, three refused calls, a
+-- reset and a program, with what demand 3 says of it. Assumes nothing.
 use Prim.Native.Nat.{ℕ, _*_}
 use mathlib.Core.Bool.{true}
 use mathlib.Core.List.{List, [], _∷_, map}
@@ -15,7 +15,8 @@ use Rattle.series.specs.Promises.{effects}
 use Rattle.worked.specs.Worked.{blank}
 use Rattle.worked.specs.Words.{idle}
 
--- a call with WP high and the typical times, whose frame takes no time, so many ticks after the call before, that is lent so many bytes of array, register and output
+-- a call with WP high and the typical times, whose frame takes no time, so many ticks after the call before, that is
+-- lent so many bytes of array, register and output
 abbrev lends : ℕ → ℕ → ℕ → ℕ → List ℕ → Step
 lends array register output elapsed input =
     record {
@@ -50,7 +51,8 @@ steps =
     -- the 4 KiB from 001000h on are erased, 50,000 ticks
     whole 12 (0x06 ∷ []) ∷
     whole 0 (0x20 ∷ 0x00 ∷ 0x10 ∷ 0x00 ∷ []) ∷
-    -- a write enable with a byte of the array missing, of the register, of the output: refused, and its ticks are not counted
+    -- a write enable with a byte of the array missing, of the register, of the output: refused, and its ticks are not
+    -- counted
     lends 131071 128 1 60000 (0x06 ∷ []) ∷
     lends 131072 127 1 60000 (0x06 ∷ []) ∷
     lends 131072 128 0 60000 (0x06 ∷ []) ∷
@@ -70,13 +72,16 @@ pub record Example : Type 0 where
   pub refusals : map (λ (r : Result). r .reply .refusal) (results steps begins)
       ≡ 0 ∷ 0 ∷ 0 ∷ 0 ∷ 0 ∷ 0 ∷ 0 ∷ 0 ∷ 1 ∷ 2 ∷ 5 ∷ 0 ∷ 0 ∷ 0 ∷ 0 ∷ []
   pub outcomes : map (λ (r : Result). r .reply .outcome) (results steps begins)
-      ≡ "control" ∷ "control" ∷ "control" ∷ "begun" ∷ "control" ∷ "begun" ∷ "control" ∷ "begun" ∷ "nothing" ∷ "nothing" ∷ "nothing" ∷ "nothing" ∷ "control" ∷ "control" ∷ "begun" ∷ []
+      ≡ "control" ∷ "control" ∷ "control" ∷ "begun" ∷ "control" ∷ "begun" ∷ "control" ∷ "begun" ∷ "nothing" ∷
+      "nothing" ∷ "nothing" ∷ "nothing" ∷ "control" ∷ "control" ∷ "begun" ∷ []
   pub busy : map (λ (r : Result). r .reply .device .busy) (results steps begins)
       ≡ 0 ∷ 0 ∷ 0 ∷ 12 ∷ 0 ∷ 12 ∷ 0 ∷ 50000 ∷ 50000 ∷ 50000 ∷ 50000 ∷ 49900 ∷ 0 ∷ 0 ∷ 12 ∷ []
   pub operations : effects steps begins
-      ≡ program 256 0x1000 0 (0x3C ∷ []) ∷ program 256 0x2000 0 (0x0F ∷ []) ∷ erase 0x1000 0x2000 ∷ program 256 0x2000 0 (0xA5 ∷ []) ∷ []
+      ≡ program 256 0x1000 0 (0x3C ∷ []) ∷ program 256 0x2000 0 (0x0F ∷ []) ∷ erase 0x1000 0x2000 ∷
+      program 256 0x2000 0 (0xA5 ∷ []) ∷ []
   -- the bytes programmed since the last erase that covered the place
-  pub programmed : (bytesAt (since (effects steps begins) 0x1000) 0x1000 ≡ []) × (bytesAt (since (effects steps begins) 0x2000) 0x2000 ≡ 0x0F ∷ 0xA5 ∷ [])
+  pub programmed : (bytesAt (since (effects steps begins) 0x1000) 0x1000 ≡ [])
+      × (bytesAt (since (effects steps begins) 0x2000) 0x2000 ≡ 0x0F ∷ 0xA5 ∷ [])
       × (bytesAt (since (effects steps begins) 0x2001) 0x2001 ≡ [])
   -- erased, whatever was programmed there before
   pub erased : getD (end steps begins .array) 0x1000 0 ≡ 0xFF
@@ -92,9 +97,11 @@ pub record ShutOut (u : State) : Type 0 where
   -- what a part leaves that serves the calls up to the first operation, and nothing afterwards
   pub first-only : u .array ≢ end (take 4 steps) begins .array
   -- what a part leaves that forgets one operation, the second
-  pub forgetful : u .array ≢ applied (program 256 0x1000 0 (0x3C ∷ []) ∷ erase 0x1000 0x2000 ∷ program 256 0x2000 0 (0xA5 ∷ []) ∷ []) (begins .array)
+  pub forgetful : u .array ≢ applied
+      (program 256 0x1000 0 (0x3C ∷ []) ∷ erase 0x1000 0x2000 ∷ program 256 0x2000 0 (0xA5 ∷ []) ∷ []) (begins .array)
   -- what two programs leave that changed places across the erase, the first and the last
   pub exchanged-across : u .array
-      ≢ applied (program 256 0x2000 0 (0xA5 ∷ []) ∷ program 256 0x2000 0 (0x0F ∷ []) ∷ erase 0x1000 0x2000 ∷ program 256 0x1000 0 (0x3C ∷ []) ∷ []) (begins .array)
+      ≢ applied (program 256 0x2000 0 (0xA5 ∷ []) ∷ program 256 0x2000 0 (0x0F ∷ []) ∷ erase 0x1000 0x2000 ∷
+      program 256 0x1000 0 (0x3C ∷ []) ∷ []) (begins .array)
   -- F7h AND 3Ch where the erase came after the program
   pub across-the-erase : getD (u .array) 0x1000 0 ≢ 0x34

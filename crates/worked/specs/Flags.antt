@@ -1,5 +1,5 @@
--- Rows of the record's flags, worked by hand: flags unlike each other, WP low as often as high, so that one taken for another is seen.
--- Assumes nothing.
+-- Rows of the record's flags, worked by hand: flags unlike each other, WP low as often as high, so that one taken for
+-- another is seen. Assumes nothing.
 use Prim.Native.Nat.{ℕ}
 use mathlib.Core.Bool.{Bool, true, false}
 use mathlib.Core.List.{List, [], _∷_, _++_}
@@ -9,25 +9,29 @@ use Rattle.device.specs.declared.Mode.the-variants.{Awake, Deep, UltraDeep}
 use Rattle.device.specs.Device.{fresh}
 use Rattle.worked.specs.Worked.{Exchange, Row}
 use Rattle.worked.specs.Frames.{latched, reads, orders, unlisted}
-use Rattle.worked.specs.Words.{held, stands, idle, enabled, clocked, whole, low, pulled, paced, came, quiet, begun, _⇒_, unmoved, rousing, piece, row}
+use Rattle.worked.specs.Words.{held, stands, idle, enabled, clocked, whole, low, pulled, paced, came, quiet}
+use Rattle.worked.specs.Words.{begun, _⇒_, unmoved, rousing, piece, row}
 
 -- a fresh record takes BPL, BP0 and the OTP-used mark from the caller; the rest is clear
 abbrev fresh-bpl : Row
 fresh-bpl =
     row (fresh true false false) 0xFF
-    ((low (0x05 ∷ 0x00 ∷ 0x00 ∷ []) 0 ⇒ came "read" 1 2 (held true false false false false Awake 0) (0xFF ∷ 0x80 ∷ 0x00 ∷ [])) ∷ [])
+    ((low (0x05 ∷ 0x00 ∷ 0x00 ∷ []) 0
+    ⇒ came "read" 1 2 (held true false false false false Awake 0) (0xFF ∷ 0x80 ∷ 0x00 ∷ [])) ∷ [])
     []
 
 abbrev fresh-bp0 : Row
 fresh-bp0 =
     row (fresh false true false) 0xFF
-    ((low (0x05 ∷ 0x00 ∷ 0x00 ∷ []) 0 ⇒ came "read" 1 2 (held false true false false false Awake 0) (0xFF ∷ 0x04 ∷ 0x00 ∷ [])) ∷ [])
+    ((low (0x05 ∷ 0x00 ∷ 0x00 ∷ []) 0
+    ⇒ came "read" 1 2 (held false true false false false Awake 0) (0xFF ∷ 0x04 ∷ 0x00 ∷ [])) ∷ [])
     []
 
 abbrev fresh-used : Row
 fresh-used =
     row (fresh false false true) 0xFF
-    ((low (0x05 ∷ 0x00 ∷ 0x00 ∷ []) 0 ⇒ came "read" 1 2 (held false false false false true Awake 0) (0xFF ∷ 0x00 ∷ 0x00 ∷ [])) ∷ [])
+    ((low (0x05 ∷ 0x00 ∷ 0x00 ∷ []) 0
+    ⇒ came "read" 1 2 (held false false false false true Awake 0) (0xFF ∷ 0x00 ∷ 0x00 ∷ [])) ∷ [])
     []
 
 -- status byte 1: BPL 80h, WP high 10h, BP0 04h, WEL 02h, busy 01h; status byte 2: RSTE 10h, busy 01h
@@ -119,7 +123,9 @@ locked-00 = locks true 0x00 false
 
 -- with BPL 1 and WP low it is aborted
 abbrev locked-low : Row
-locked-low = row (guarded true false true) 0xFF ((low (0x01 ∷ 0x04 ∷ []) 0 ⇒ quiet "aborted" (guarded true false false) 2) ∷ []) []
+locked-low =
+    row (guarded true false true) 0xFF ((low (0x01 ∷ 0x04 ∷ []) 0 ⇒ quiet "aborted" (guarded true false false) 2) ∷ [])
+    []
 
 -- 31: bit 4 alone goes to RSTE, also with BPL 1 and WP low; control, and no busy time
 abbrev enabling : Bool → ℕ → Bool → Row
@@ -146,7 +152,8 @@ rste-among-others = enabling false 0x7B true
 -- the other flags unlike these, and BP0 1
 abbrev rste-unlike : Row
 rste-unlike =
-    row (stands false true true 0) 0xFF ((whole (0x31 ∷ 0x10 ∷ []) 0 ⇒ quiet "control" (held false true false true false Awake 0) 2) ∷ []) []
+    row (stands false true true 0) 0xFF
+    ((whole (0x31 ∷ 0x10 ∷ []) 0 ⇒ quiet "control" (held false true false true false Awake 0) 2) ∷ []) []
 
 -- a reset of an idle part, and of a busy one: busy ticks and WEL become 0, all else stays
 abbrev reset-all : Row
@@ -181,7 +188,8 @@ no-resets d =
 -- nor with RSTE 0
 abbrev no-reset-idle : Row
 no-reset-idle =
-    row (held true true true false true Awake 0) 0xFF ((low (0xF0 ∷ 0xD0 ∷ []) 0 ⇒ quiet "nothing" (held true true true false true Awake 0) 2) ∷ []) []
+    row (held true true true false true Awake 0) 0xFF
+    ((low (0xF0 ∷ 0xD0 ∷ []) 0 ⇒ quiet "nothing" (held true true true false true Awake 0) 2) ∷ []) []
 
 -- 06 and 04 change WEL alone, whatever it was
 abbrev latch-alone : Row
@@ -226,36 +234,51 @@ sleeps-other = sleeps false true false true false
 -- 79 changes the mode alone; any frame wakes, with no output, and WEL and RSTE become 0
 abbrev dozes : (bpl bp0 wel rste used : Bool) → Exchange → Row
 dozes bpl bp0 wel rste used waking =
-    row (held bpl bp0 wel rste used Awake 0) 0xFF ((low (0x79 ∷ []) 0 ⇒ quiet "control" (held bpl bp0 wel rste used UltraDeep 0) 1) ∷ waking ∷ []) []
+    row (held bpl bp0 wel rste used Awake 0) 0xFF
+    ((low (0x79 ∷ []) 0 ⇒ quiet "control" (held bpl bp0 wel rste used UltraDeep 0) 1) ∷ waking ∷ []) []
 
 abbrev dozes-bpl : Row
-dozes-bpl = dozes true false true false true (whole (0x9F ∷ 0x00 ∷ []) 0 ⇒ quiet "control" (held true false false false true Awake 0) 2)
+dozes-bpl =
+    dozes true false true false true (whole (0x9F ∷ 0x00 ∷ []) 0
+    ⇒ quiet "control" (held true false false false true Awake 0) 2)
 
 abbrev dozes-bp0 : Row
-dozes-bp0 = dozes false true false true false (clocked 3 (0x00 ∷ []) 0 ⇒ quiet "control" (held false true false false false Awake 0) 1)
+dozes-bp0 =
+    dozes false true false true false (clocked 3 (0x00 ∷ []) 0
+    ⇒ quiet "control" (held false true false false false Awake 0) 1)
 
 abbrev dozes-off-boundary : Row
-dozes-off-boundary = dozes true true true true false (pulled (clocked 12 (0x79 ∷ 0x00 ∷ []) 5) ⇒ quiet "control" (held true true false false false Awake 0) 2)
+dozes-off-boundary =
+    dozes true true true true false (pulled (clocked 12 (0x79 ∷ 0x00 ∷ []) 5)
+    ⇒ quiet "control" (held true true false false false Awake 0) 2)
 
 abbrev dozes-ab : Row
-dozes-ab = dozes false false true true true (whole (0xAB ∷ []) 0 ⇒ quiet "control" (held false false false false true Awake 0) 1)
+dozes-ab =
+    dozes false false true true true (whole (0xAB ∷ []) 0
+    ⇒ quiet "control" (held false false false false true Awake 0) 1)
 
 abbrev dozes-05 : Row
-dozes-05 = dozes true true false true true (low (0x05 ∷ 0x00 ∷ []) 9 ⇒ quiet "control" (held true true false false true Awake 0) 2)
+dozes-05 =
+    dozes true true false true true (low (0x05 ∷ 0x00 ∷ []) 9
+    ⇒ quiet "control" (held true true false false true Awake 0) 2)
 
 -- and so does each of them, with nothing read and nothing begun
 abbrev rouses : Row
 rouses =
     row (held true false false false true Awake 0) 0x00
-    (rousing (held true false false false true Awake 0) (held true false false false true UltraDeep 0) (latched ++ reads ++ orders ++ ((0xF0 ∷ 0xD0 ∷ []) ∷ (0x00 ∷ []) ∷ [])))
+    (rousing (held true false false false true Awake 0) (held true false false false true UltraDeep 0)
+    (latched ++ reads ++ orders ++ ((0xF0 ∷ 0xD0 ∷ []) ∷ (0x00 ∷ []) ∷ [])))
     []
 
 -- with a byte more they are control too
 abbrev doze : Row
-doze = row idle 0xFF ((whole (0x79 ∷ 0x00 ∷ []) 0 ⇒ quiet "control" (held false false false false false UltraDeep 0) 2) ∷ []) []
+doze =
+    row idle 0xFF ((whole (0x79 ∷ 0x00 ∷ []) 0 ⇒ quiet "control" (held false false false false false UltraDeep 0) 2) ∷
+    []) []
 
 abbrev sleep : Row
-sleep = row idle 0xFF ((whole (0xB9 ∷ 0x00 ∷ []) 0 ⇒ quiet "control" (held false false false false false Deep 0) 2) ∷ []) []
+sleep =
+    row idle 0xFF ((whole (0xB9 ∷ 0x00 ∷ []) 0 ⇒ quiet "control" (held false false false false false Deep 0) 2) ∷ []) []
 
 -- off a boundary, by one bit to seven: 06 is nothing, and so are 04, B9 and 79; with WEL 1 or 0 it stays
 abbrev off : ℕ → ℕ → Device → Exchange
@@ -264,15 +287,21 @@ off code bits d = clocked bits (code ∷ 0x00 ∷ []) 0 ⇒ quiet "nothing" d 2
 abbrev off-boundary : Row
 off-boundary =
     row idle 0xFF
-    (off 0x06 9 idle ∷ off 0x06 10 idle ∷ off 0x06 11 idle ∷ off 0x06 12 idle ∷ off 0x06 13 idle ∷ off 0x06 14 idle ∷ off 0x06 15 idle ∷ [])
+    (off 0x06 9 idle ∷ off 0x06 10 idle ∷ off 0x06 11 idle ∷ off 0x06 12 idle ∷ off 0x06 13 idle ∷ off 0x06 14 idle ∷
+    off 0x06 15 idle ∷ [])
     []
 
 abbrev off-boundary-flags : Device → Row
-off-boundary-flags d = row d 0xFF (off 0x04 12 d ∷ off 0x04 15 d ∷ off 0x06 12 d ∷ off 0xB9 12 d ∷ off 0xB9 10 d ∷ off 0x79 12 d ∷ off 0x79 14 d ∷ off 0xAB 12 d ∷ off 0xF0 12 d ∷ []) []
+off-boundary-flags d =
+    row d 0xFF (off 0x04 12 d ∷ off 0x04 15 d ∷ off 0x06 12 d ∷ off 0xB9 12 d ∷ off 0xB9 10 d ∷ off 0x79 12 d ∷
+    off 0x79 14 d ∷ off 0xAB 12 d ∷ off 0xF0 12 d ∷ []) []
 
 -- awake, AB is nothing and so is every opcode that is not listed: WEL stays, and the other flags
 abbrev unheard : Device → Row
-unheard d = row d 0xFF (unmoved "nothing" d (((0xAB ∷ []) ∷ (0xAB ∷ 0x00 ∷ []) ∷ (0x3B ∷ 0x00 ∷ 0x00 ∷ 0x00 ∷ 0x00 ∷ 0x00 ∷ []) ∷ []) ++ unlisted)) []
+unheard d =
+    row d 0xFF
+    (unmoved "nothing" d (((0xAB ∷ []) ∷ (0xAB ∷ 0x00 ∷ []) ∷ (0x3B ∷ 0x00 ∷ 0x00 ∷ 0x00 ∷ 0x00 ∷ 0x00 ∷ []) ∷ []) ++
+    unlisted)) []
 
 -- fewer than 8 bits are nothing, whatever their opcode would be
 abbrev too-few : Row

@@ -65,6 +65,8 @@ orders = (0x06 ∷ []) ∷ (0x04 ∷ []) ∷ (0xB9 ∷ []) ∷ (0x79 ∷ []) ∷
 abbrev pub unlisted : List (List ℕ)
 unlisted =
     map (λ (code : ℕ). code ∷ [])
-    ((0x00 ∷ 0x61 ∷ 0x78 ∷ []) ++ counting 0x07 4 ++ counting 0x0C 9 ++ counting 0x16 10 ++ counting 0x21 16 ++ counting 0x32 32 ++ counting 0x53 13 ++
-    counting 0x63 20 ++ counting 0x7A 7 ++ counting 0x82 25 ++ counting 0x9C 3 ++ counting 0xA0 11 ++ counting 0xAC 13 ++ counting 0xBA 13 ++
+    ((0x00 ∷ 0x61 ∷ 0x78 ∷ []) ++ counting 0x07 4 ++ counting 0x0C 9 ++ counting 0x16 10 ++ counting 0x21 16 ++
+    counting 0x32 32 ++ counting 0x53 13 ++
+    counting 0x63 20 ++ counting 0x7A 7 ++ counting 0x82 25 ++ counting 0x9C 3 ++ counting 0xA0 11 ++
+    counting 0xAC 13 ++ counting 0xBA 13 ++
     counting 0xC8 16 ++ counting 0xD9 23 ++ counting 0xF1 15)

@@ -1,4 +1,5 @@
--- Rows beyond P1 to P10, worked by hand too: each opcode, each duration, each way to be aborted or refused. Assumes nothing.
+-- Rows beyond P1 to P10, worked by hand too: each opcode, each duration, each way to be aborted or refused. Assumes
+-- nothing.
 use Prim.Native.Nat.{ℕ}
 use mathlib.Core.Bool.{Bool, true, false}
 use mathlib.Core.List.{List, [], _∷_}
@@ -6,7 +7,8 @@ use Rattle.device.specs.declared.Device.{Device}
 use Rattle.device.specs.declared.Mode.{Mode}
 use Rattle.device.specs.declared.Mode.the-variants.{Awake, Deep, UltraDeep}
 use Rattle.worked.specs.Worked.{Exchange, Row}
-use Rattle.worked.specs.Words.{held, stands, idle, enabled, busy, clocked, whole, low, came, quiet, begun, refused, _⇒_, piece, row, sized, registered}
+use Rattle.worked.specs.Words.{held, stands, idle, enabled, busy, clocked, whole, low, came, quiet, begun}
+use Rattle.worked.specs.Words.{refused, _⇒_, piece, row, sized, registered}
 
 -- a record of a part that is not protected, with all else said
 abbrev told : Bool → Bool → Bool → Mode → ℕ → Device
@@ -17,11 +19,15 @@ abbrev reads : Row
 reads =
     row idle 0xC3
     ((whole (0x03 ∷ 0x00 ∷ 0x00 ∷ 0x00 ∷ 0x00 ∷ []) 0 ⇒ came "read" 4 1 idle (0xFF ∷ 0xFF ∷ 0xFF ∷ 0xFF ∷ 0xC3 ∷ [])) ∷
-    (whole (0x0B ∷ 0x00 ∷ 0x00 ∷ 0x00 ∷ 0x00 ∷ 0x00 ∷ []) 0 ⇒ came "read" 5 1 idle (0xFF ∷ 0xFF ∷ 0xFF ∷ 0xFF ∷ 0xFF ∷ 0xC3 ∷ [])) ∷
+    (whole (0x0B ∷ 0x00 ∷ 0x00 ∷ 0x00 ∷ 0x00 ∷ 0x00 ∷ []) 0
+    ⇒ came "read" 5 1 idle (0xFF ∷ 0xFF ∷ 0xFF ∷ 0xFF ∷ 0xFF ∷ 0xC3 ∷ [])) ∷
     (whole (0x03 ∷ 0x00 ∷ 0x00 ∷ 0x00 ∷ []) 0 ⇒ quiet "read" idle 4) ∷
-    (clocked 33 (0x03 ∷ 0x00 ∷ 0x00 ∷ 0x00 ∷ 0x00 ∷ []) 0 ⇒ came "read" 4 1 idle (0xFF ∷ 0xFF ∷ 0xFF ∷ 0xFF ∷ 0xFF ∷ [])) ∷
-    (clocked 34 (0x03 ∷ 0x00 ∷ 0x00 ∷ 0x00 ∷ 0x00 ∷ []) 0 ⇒ came "read" 4 1 idle (0xFF ∷ 0xFF ∷ 0xFF ∷ 0xFF ∷ 0xFF ∷ [])) ∷
-    (clocked 35 (0x03 ∷ 0x00 ∷ 0x00 ∷ 0x00 ∷ 0x00 ∷ []) 0 ⇒ came "read" 4 1 idle (0xFF ∷ 0xFF ∷ 0xFF ∷ 0xFF ∷ 0xDF ∷ [])) ∷
+    (clocked 33 (0x03 ∷ 0x00 ∷ 0x00 ∷ 0x00 ∷ 0x00 ∷ []) 0
+    ⇒ came "read" 4 1 idle (0xFF ∷ 0xFF ∷ 0xFF ∷ 0xFF ∷ 0xFF ∷ [])) ∷
+    (clocked 34 (0x03 ∷ 0x00 ∷ 0x00 ∷ 0x00 ∷ 0x00 ∷ []) 0
+    ⇒ came "read" 4 1 idle (0xFF ∷ 0xFF ∷ 0xFF ∷ 0xFF ∷ 0xFF ∷ [])) ∷
+    (clocked 35 (0x03 ∷ 0x00 ∷ 0x00 ∷ 0x00 ∷ 0x00 ∷ []) 0
+    ⇒ came "read" 4 1 idle (0xFF ∷ 0xFF ∷ 0xFF ∷ 0xFF ∷ 0xDF ∷ [])) ∷
     [])
     []
 
@@ -104,7 +110,8 @@ protected =
 
 -- the other erases and their durations: 81, 52 and the three of the whole chip, with any address bytes
 abbrev erases : ℕ → List ℕ → ℕ → ℕ → ℕ → ℕ → Row
-erases code address n ticks from to = row enabled 0x00 ((whole (code ∷ address) 0 ⇒ begun from to (busy ticks) n) ∷ []) (piece from to 0xFF ∷ [])
+erases code address n ticks from to =
+    row enabled 0x00 ((whole (code ∷ address) 0 ⇒ begun from to (busy ticks) n) ∷ []) (piece from to 0xFF ∷ [])
 
 abbrev page-erase : Row
 page-erase = erases 0x81 (0x00 ∷ 0x12 ∷ 0x34 ∷ []) 4 7000 0x1200 0x1300
@@ -145,7 +152,8 @@ reset =
     (whole (0x20 ∷ 0x00 ∷ 0x00 ∷ 0x00 ∷ []) 0 ⇒ begun 0 0x1000 (told false true false Awake 50000) 4) ∷
     (whole (0x03 ∷ 0x00 ∷ 0x00 ∷ 0x00 ∷ 0x00 ∷ []) 1 ⇒ quiet "nothing" (told false true false Awake 49999) 5) ∷
     (whole (0x06 ∷ []) 0 ⇒ quiet "nothing" (told false true false Awake 49999) 1) ∷
-    (whole (0x05 ∷ 0x00 ∷ 0x00 ∷ []) 0 ⇒ came "read" 1 2 (told false true false Awake 49999) (0xFF ∷ 0x11 ∷ 0x11 ∷ [])) ∷
+    (whole (0x05 ∷ 0x00 ∷ 0x00 ∷ []) 0 ⇒ came "read" 1 2 (told false true false Awake 49999) (0xFF ∷ 0x11 ∷ 0x11 ∷ []))
+    ∷
     (whole (0xF0 ∷ 0xD1 ∷ []) 0 ⇒ quiet "nothing" (told false true false Awake 49999) 2) ∷
     (whole (0xF0 ∷ 0xD0 ∷ []) 0 ⇒ quiet "control" (told false true false Awake 0) 2) ∷
     [])
@@ -175,7 +183,8 @@ protecting wel rste mode = held true true wel rste true mode 0
 abbrev ultra : Row
 ultra =
     row (protecting true true Awake) 0xFF
-    ((whole (0x79 ∷ []) 0 ⇒ quiet "control" (protecting true true UltraDeep) 1) ∷ (whole [] 0 ⇒ quiet "control" (protecting false false Awake) 0) ∷ [])
+    ((whole (0x79 ∷ []) 0 ⇒ quiet "control" (protecting true true UltraDeep) 1) ∷
+    (whole [] 0 ⇒ quiet "control" (protecting false false Awake) 0) ∷ [])
     []
 
 -- 01 while BPL is 1: aborted with WP low; with WP high BPL alone is written
@@ -194,14 +203,17 @@ locked =
 abbrev refusals : Row
 refusals =
     row (busy 50) 0xFF
-    ((clocked 9 (0x05 ∷ []) 10 ⇒ refused 4 (busy 50) 1) ∷ (clocked 8 (0x05 ∷ 0x00 ∷ []) 10 ⇒ refused 4 (busy 50) 2) ∷ (clocked 0 (0x05 ∷ []) 10 ⇒ refused 4 (busy 50) 1) ∷ [])
+    ((clocked 9 (0x05 ∷ []) 10 ⇒ refused 4 (busy 50) 1) ∷ (clocked 8 (0x05 ∷ 0x00 ∷ []) 10 ⇒ refused 4 (busy 50) 2) ∷
+    (clocked 0 (0x05 ∷ []) 10 ⇒ refused 4 (busy 50) 1) ∷ [])
     []
 
 abbrev too-busy : Row
 too-busy = row (busy 60000001) 0xFF ((whole (0x05 ∷ 0x00 ∷ []) 60000001 ⇒ refused 6 (busy 60000001) 2) ∷ []) []
 
 abbrev busy-asleep : Row
-busy-asleep = row (told false false false Deep 1) 0xFF ((whole (0xAB ∷ []) 1 ⇒ refused 6 (told false false false Deep 1) 1) ∷ []) []
+busy-asleep =
+    row (told false false false Deep 1) 0xFF ((whole (0xAB ∷ []) 1 ⇒ refused 6 (told false false false Deep 1) 1) ∷ [])
+    []
 
 abbrev another-size : Row
 another-size = sized 131071 (row enabled 0x00 ((whole (0x60 ∷ []) 0 ⇒ refused 1 enabled 1) ∷ []) [])

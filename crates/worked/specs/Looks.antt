@@ -7,7 +7,8 @@ use Rattle.memories.specs.declared.Memory.{Memory}
 use Rattle.memories.specs.Look.{lookedAt, lookedFrom, lengthIn}
 use Rattle.worked.specs.Words.{counting}
 
--- 65,536 bytes that begin with 40h and on and end with 80h and on; 131,072 that end with C1h C2h; a register of 80h and on
+-- 65,536 bytes that begin with 40h and on and end with 80h and on; 131,072 that end with C1h C2h; a register of 80h and
+-- on
 abbrev small : List ℕ
 small = counting 0x40 16 ++ replicate 65504 0x11 ++ counting 0x80 16
 
@@ -17,7 +18,8 @@ large = counting 0x40 16 ++ replicate 131054 0x11 ++ (0xC1 ∷ 0xC2 ∷ [])
 abbrev register : List ℕ
 register = counting 0x80 128
 
--- a view of an array beside a register of 127 bytes, which does not bear on it; of the register beside an array of one byte
+-- a view of an array beside a register of 127 bytes, which does not bear on it; of the register beside an array of one
+-- byte
 abbrev of-array : List ℕ → ℕ → ℕ → List ℕ
 of-array array address count = lookedAt Memory.Array array (replicate 127 0x00) address count
 

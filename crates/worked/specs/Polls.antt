@@ -1,12 +1,13 @@
--- Frames that take time, worked by hand: at 8 ticks a position, position 1 begins 8 ticks after the frame's first bit, position 2 begins 16,
--- position 3 begins 24 ticks after it. Assumes nothing.
+-- Frames that take time, worked by hand: at 8 ticks a position, position 1 begins 8 ticks after the frame's first bit,
+-- position 2 begins 16, position 3 begins 24 ticks after it. Assumes nothing.
 use Prim.Native.Nat.{ℕ}
 use mathlib.Core.Bool.{Bool, true, false}
 use mathlib.Core.List.{List, [], _∷_}
 use Rattle.device.specs.declared.Device.{Device}
 use Rattle.device.specs.declared.Mode.the-variants.{Awake}
 use Rattle.worked.specs.Worked.{Sent, Row}
-use Rattle.worked.specs.Words.{held, idle, enabled, busy, clocked, whole, low, paced, came, quiet, begun, refused, _⇒_, piece, row, lasting}
+use Rattle.worked.specs.Words.{held, idle, enabled, busy, clocked, whole, low, paced, came, quiet, begun, refused}
+use Rattle.worked.specs.Words.{_⇒_, piece, row, lasting}
 
 -- a status read of five status bytes, at 8 ticks a position: 48 ticks in all
 abbrev poll : Sent
@@ -14,18 +15,22 @@ poll = paced 8 (whole (0x05 ∷ 0x00 ∷ 0x00 ∷ 0x00 ∷ 0x00 ∷ 0x00 ∷ [])
 
 -- 20 ticks left: positions 1 and 2 show busy, and status byte 1 at position 3 is the first that does not
 abbrev falls-in-byte-one : Row
-falls-in-byte-one = row (busy 20) 0xFF ((poll ⇒ came "read" 1 5 idle (0xFF ∷ 0x11 ∷ 0x01 ∷ 0x10 ∷ 0x00 ∷ 0x10 ∷ [])) ∷ []) []
+falls-in-byte-one =
+    row (busy 20) 0xFF ((poll ⇒ came "read" 1 5 idle (0xFF ∷ 0x11 ∷ 0x01 ∷ 0x10 ∷ 0x00 ∷ 0x10 ∷ [])) ∷ []) []
 
 -- 12 ticks left: status byte 2 at position 2 is the first that does not
 abbrev falls-in-byte-two : Row
-falls-in-byte-two = row (busy 12) 0xFF ((poll ⇒ came "read" 1 5 idle (0xFF ∷ 0x11 ∷ 0x00 ∷ 0x10 ∷ 0x00 ∷ 0x10 ∷ [])) ∷ []) []
+falls-in-byte-two =
+    row (busy 12) 0xFF ((poll ⇒ came "read" 1 5 idle (0xFF ∷ 0x11 ∷ 0x00 ∷ 0x10 ∷ 0x00 ∷ 0x10 ∷ [])) ∷ []) []
 
 -- 16 ticks left: none is left at the very first bit of position 2; with one tick more, one is
 abbrev falls-at-the-first-bit : Row
-falls-at-the-first-bit = row (busy 16) 0xFF ((poll ⇒ came "read" 1 5 idle (0xFF ∷ 0x11 ∷ 0x00 ∷ 0x10 ∷ 0x00 ∷ 0x10 ∷ [])) ∷ []) []
+falls-at-the-first-bit =
+    row (busy 16) 0xFF ((poll ⇒ came "read" 1 5 idle (0xFF ∷ 0x11 ∷ 0x00 ∷ 0x10 ∷ 0x00 ∷ 0x10 ∷ [])) ∷ []) []
 
 abbrev one-tick-more : Row
-one-tick-more = row (busy 17) 0xFF ((poll ⇒ came "read" 1 5 idle (0xFF ∷ 0x11 ∷ 0x01 ∷ 0x10 ∷ 0x00 ∷ 0x10 ∷ [])) ∷ []) []
+one-tick-more =
+    row (busy 17) 0xFF ((poll ⇒ came "read" 1 5 idle (0xFF ∷ 0x11 ∷ 0x01 ∷ 0x10 ∷ 0x00 ∷ 0x10 ∷ [])) ∷ []) []
 
 -- busy does not fall in the frame: 100 less 48, and then less 4 and 48; at 0 ticks a position nothing passes
 abbrev does-not-fall : Row
@@ -33,7 +38,8 @@ does-not-fall =
     row (busy 100) 0xFF
     ((poll ⇒ came "read" 1 5 (busy 52) (0xFF ∷ 0x11 ∷ 0x01 ∷ 0x11 ∷ 0x01 ∷ 0x11 ∷ [])) ∷
     (whole (0x05 ∷ 0x00 ∷ 0x00 ∷ []) 0 ⇒ came "read" 1 2 (busy 52) (0xFF ∷ 0x11 ∷ 0x01 ∷ [])) ∷
-    (paced 8 (whole (0x05 ∷ 0x00 ∷ 0x00 ∷ 0x00 ∷ 0x00 ∷ 0x00 ∷ []) 4) ⇒ came "read" 1 5 idle (0xFF ∷ 0x11 ∷ 0x01 ∷ 0x11 ∷ 0x01 ∷ 0x11 ∷ [])) ∷
+    (paced 8 (whole (0x05 ∷ 0x00 ∷ 0x00 ∷ 0x00 ∷ 0x00 ∷ 0x00 ∷ []) 4)
+    ⇒ came "read" 1 5 idle (0xFF ∷ 0x11 ∷ 0x01 ∷ 0x11 ∷ 0x01 ∷ 0x11 ∷ [])) ∷
     [])
     []
 
@@ -44,7 +50,9 @@ all-up busy = held true true true true false Awake busy
 -- nothing else moves: these four are shown as they stand, with WP low, at 8 and 16 ticks busy, at 24 not
 abbrev others-stand : Row
 others-stand =
-    row (all-up 20) 0xFF ((paced 8 (low (0x05 ∷ 0x00 ∷ 0x00 ∷ 0x00 ∷ []) 0) ⇒ came "read" 1 3 (all-up 0) (0xFF ∷ 0x87 ∷ 0x11 ∷ 0x86 ∷ [])) ∷ []) []
+    row (all-up 20) 0xFF
+    ((paced 8 (low (0x05 ∷ 0x00 ∷ 0x00 ∷ 0x00 ∷ []) 0) ⇒ came "read" 1 3 (all-up 0) (0xFF ∷ 0x87 ∷ 0x11 ∷ 0x86 ∷ [])) ∷
+    []) []
 
 -- a byte of which some bits are clocked is a position too, be it a single bit; a frame of no bits takes no ticks
 abbrev positions : Row
@@ -56,12 +64,14 @@ positions =
     [])
     []
 
--- busy at its first bit a frame is ignored, also if busy ends inside it; if busy ends with the ticks elapsed before, it is heard
+-- busy at its first bit a frame is ignored, also if busy ends inside it; if busy ends with the ticks elapsed before, it
+-- is heard
 abbrev ignored : Row
 ignored =
     row (busy 10) 0x00
     ((paced 8 (whole (0x03 ∷ 0x00 ∷ 0x00 ∷ 0x00 ∷ 0x00 ∷ []) 9) ⇒ quiet "nothing" idle 5) ∷
-    (paced 8 (whole (0x03 ∷ 0x00 ∷ 0x00 ∷ 0x00 ∷ 0x00 ∷ []) 0) ⇒ came "read" 4 1 idle (0xFF ∷ 0xFF ∷ 0xFF ∷ 0xFF ∷ 0x00 ∷ [])) ∷
+    (paced 8 (whole (0x03 ∷ 0x00 ∷ 0x00 ∷ 0x00 ∷ 0x00 ∷ []) 0)
+    ⇒ came "read" 4 1 idle (0xFF ∷ 0xFF ∷ 0xFF ∷ 0xFF ∷ 0x00 ∷ [])) ∷
     [])
     []
 
@@ -90,8 +100,8 @@ resets =
     [])
     []
 
--- refusal 8: 1,001 ticks a position are refused, and then neither number counts; 1,000 are accepted, also with 2^64 - 1 ticks elapsed, where
--- the sum of the two would not fit 64 bits
+-- refusal 8: 1,001 ticks a position are refused, and then neither number counts; 1,000 are accepted, also with 2^64 - 1
+-- ticks elapsed, where the sum of the two would not fit 64 bits
 abbrev eight : Row
 eight =
     row (busy 5000) 0xFF
@@ -109,5 +119,6 @@ seven-first =
 
 unfoldable pub polls : List Row
 polls =
-    falls-in-byte-one ∷ falls-in-byte-two ∷ falls-at-the-first-bit ∷ one-tick-more ∷ does-not-fall ∷ others-stand ∷ positions ∷ ignored ∷ heard ∷
+    falls-in-byte-one ∷ falls-in-byte-two ∷ falls-at-the-first-bit ∷ one-tick-more ∷ does-not-fall ∷ others-stand ∷
+    positions ∷ ignored ∷ heard ∷
     begins-at-the-rise ∷ resets ∷ eight ∷ seven-first ∷ []

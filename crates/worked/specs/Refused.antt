@@ -1,5 +1,5 @@
--- Rows of the refusals, worked by hand: each number at its limits, and before the next. The frame would erase the chip, and every byte
--- stays. Assumes nothing.
+-- Rows of the refusals, worked by hand: each number at its limits, and before the next. The frame would erase the chip,
+-- and every byte stays. Assumes nothing.
 use Prim.Native.Nat.{ℕ}
 use mathlib.Core.Bool.{true, false}
 use mathlib.Core.List.{List, [], _∷_}
@@ -8,7 +8,8 @@ use Rattle.device.specs.declared.Device.{Device}
 use Rattle.device.specs.declared.Mode.{Mode}
 use Rattle.device.specs.declared.Mode.the-variants.{Awake, Deep, UltraDeep}
 use Rattle.worked.specs.Worked.{Sent, Row}
-use Rattle.worked.specs.Words.{held, enabled, busy, clocked, whole, low, paced, given, came, filled, begun, spared, refused, _⇒_, piece, row, sized, lasting, registered}
+use Rattle.worked.specs.Words.{held, enabled, busy, clocked, whole, low, paced, given, came, filled, begun}
+use Rattle.worked.specs.Words.{spared, refused, _⇒_, piece, row, sized, lasting, registered}
 
 -- a chip erase, with WEL 1; so many bytes of it
 abbrev erase : Sent
@@ -67,11 +68,13 @@ room-first = row (busy 60000001) 0x00 ((given 0 erase ⇒ spared 5 (busy 6000000
 
 -- 6: busy ticks up to 60,000,000 are accepted, in a part that is awake; 6 before 7
 abbrev most-busy : Row
-most-busy = row (busy 60000000) 0x00 ((whole (0x05 ∷ 0x00 ∷ []) 1 ⇒ came "read" 1 1 (busy 59999999) (0xFF ∷ 0x11 ∷ [])) ∷ []) []
+most-busy =
+    row (busy 60000000) 0x00 ((whole (0x05 ∷ 0x00 ∷ []) 1 ⇒ came "read" 1 1 (busy 59999999) (0xFF ∷ 0x11 ∷ [])) ∷ []) []
 
 abbrev asleep-and : Mode → Row
 asleep-and mode =
-    row (held true false true false false mode 1) 0x00 ((whole (0xAB ∷ []) 1 ⇒ refused 6 (held true false true false false mode 1) 1) ∷ []) []
+    row (held true false true false false mode 1) 0x00
+    ((whole (0xAB ∷ []) 1 ⇒ refused 6 (held true false true false false mode 1) 1) ∷ []) []
 
 abbrev record-first : Row
 record-first =
@@ -82,13 +85,16 @@ record-first =
 abbrev unfair : List ℕ → Row
 unfair ticks = lasting ticks (row enabled 0x00 ((erase ⇒ refused 7 enabled 1) ∷ []) [])
 
--- Each number with every fault of a higher number beside it, on a record whose flags are all 1: none of them moves, and no tick is counted.
+-- Each number with every fault of a higher number beside it, on a record whose flags are all 1: none of them moves, and
+-- no tick is counted.
 abbrev full : Mode → ℕ → Device
 full mode busy = held true true true true true mode busy
 
 abbrev faulty : ℕ → ℕ → ℕ → List ℕ → Device → Sent → ℕ → Row
 faulty number array register ticks d sent room =
-    lasting ticks (sized array (registered register [] [] (row d 0x00 ((given room (paced 1001 sent) ⇒ spared number d room) ∷ []) [])))
+    lasting ticks
+    (sized array
+    (registered register [] [] (row d 0x00 ((given room (paced 1001 sent) ⇒ spared number d room) ∷ []) [])))
 
 abbrev zero-last : List ℕ
 zero-last = 12 ∷ 2000 ∷ 7000 ∷ 50000 ∷ 400000 ∷ 1600000 ∷ 400 ∷ 0 ∷ []

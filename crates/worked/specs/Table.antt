@@ -6,7 +6,8 @@ use lib.ListN.{replicate}
 use Rattle.device.specs.declared.Device.{Device}
 use Rattle.device.specs.Device.{fresh}
 use Rattle.worked.specs.Worked.{Exchange, Row}
-use Rattle.worked.specs.Words.{stands, idle, enabled, busy, clocked, whole, low, came, quiet, begun, refused, _⇒_, piece, row, sized, lasting}
+use Rattle.worked.specs.Words.{stands, idle, enabled, busy, clocked, whole, low, came, quiet, begun, refused, _⇒_}
+use Rattle.worked.specs.Words.{piece, row, sized, lasting}
 
 -- a fresh record with BPL and BP0 0
 abbrev clear : Device
@@ -47,7 +48,9 @@ p3 =
 
 -- P4: a program of 39 bits is aborted and changes no byte; one of 40 bits begins
 abbrev p4-short : Row
-p4-short = row clear 0xFF (write-enable ∷ (clocked 39 (0x02 ∷ 0x00 ∷ 0x00 ∷ 0x00 ∷ 0x00 ∷ []) 0 ⇒ quiet "aborted" idle 5) ∷ []) []
+p4-short =
+    row clear 0xFF (write-enable ∷ (clocked 39 (0x02 ∷ 0x00 ∷ 0x00 ∷ 0x00 ∷ 0x00 ∷ []) 0 ⇒ quiet "aborted" idle 5) ∷ [])
+    []
 
 abbrev p4-whole : Row
 p4-whole =
@@ -59,7 +62,8 @@ p4-whole =
 abbrev p5 : Row
 p5 =
     row clear 0xFF
-    (write-enable ∷ (whole (0x02 ∷ 0x00 ∷ 0x00 ∷ 0x00 ∷ 0xAA ∷ replicate 256 0x55) 0 ⇒ begun 0 0x100 (busy 2000) 261) ∷ [])
+    (write-enable ∷ (whole (0x02 ∷ 0x00 ∷ 0x00 ∷ 0x00 ∷ 0xAA ∷ replicate 256 0x55) 0 ⇒ begun 0 0x100 (busy 2000) 261) ∷
+    [])
     (piece 0 256 0x55 ∷ [])
 
 -- P6: an erase covers the 4 KiB, or the 32 KiB, around its address, and nothing else
@@ -110,7 +114,8 @@ p9 =
 abbrev p10 : Row
 p10 =
     row clear 0xFF
-    ((whole (0x9F ∷ 0x00 ∷ 0x00 ∷ 0x00 ∷ 0x00 ∷ 0x00 ∷ []) 0 ⇒ came "read" 1 4 idle (0xFF ∷ 0x1F ∷ 0x42 ∷ 0x00 ∷ 0x00 ∷ 0xFF ∷ [])) ∷ [])
+    ((whole (0x9F ∷ 0x00 ∷ 0x00 ∷ 0x00 ∷ 0x00 ∷ 0x00 ∷ []) 0
+    ⇒ came "read" 1 4 idle (0xFF ∷ 0x1F ∷ 0x42 ∷ 0x00 ∷ 0x00 ∷ 0xFF ∷ [])) ∷ [])
     []
 
 -- the built-in session, on the small array, each program taking 2,000 ticks
@@ -131,7 +136,8 @@ session =
 abbrev most-bytes : Row
 most-bytes =
     row clear 0x11
-    ((whole (0x03 ∷ replicate 8191 0x00) 0 ⇒ came "read" 4 8188 idle (0xFF ∷ 0xFF ∷ 0xFF ∷ 0xFF ∷ replicate 8188 0x11)) ∷
+    ((whole (0x03 ∷ replicate 8191 0x00) 0 ⇒ came "read" 4 8188 idle (0xFF ∷ 0xFF ∷ 0xFF ∷ 0xFF ∷ replicate 8188 0x11))
+    ∷
     (whole (replicate 8193 0x00) 0 ⇒ refused 3 idle 8193) ∷
     [])
     []
@@ -141,11 +147,15 @@ abbrev long : ℕ → List ℕ
 long last = 60000000 ∷ 60000000 ∷ 60000000 ∷ 60000000 ∷ 60000000 ∷ 60000000 ∷ 60000000 ∷ last ∷ []
 
 abbrev longest : Row
-longest = lasting (long 60000000) (row clear 0x00 (write-enable ∷ (whole (0x60 ∷ []) 0 ⇒ begun 0 131072 (busy 60000000) 1) ∷ []) (piece 0 131072 0xFF ∷ []))
+longest =
+    lasting (long 60000000)
+    (row clear 0x00 (write-enable ∷ (whole (0x60 ∷ []) 0 ⇒ begun 0 131072 (busy 60000000) 1) ∷ [])
+    (piece 0 131072 0xFF ∷ []))
 
 abbrev longer : Row
 longer = lasting (long 60000001) (row enabled 0x00 ((whole (0x60 ∷ []) 0 ⇒ refused 7 enabled 1) ∷ []) [])
 
 unfoldable pub table : List Row
 table =
-    p1 ∷ p2 ∷ p3 ∷ p4-short ∷ p4-whole ∷ p5 ∷ p6-small ∷ p6-large ∷ p7 ∷ p8 ∷ p9 ∷ p10 ∷ session ∷ most-bytes ∷ longest ∷ longer ∷ []
+    p1 ∷ p2 ∷ p3 ∷ p4-short ∷ p4-whole ∷ p5 ∷ p6-small ∷ p6-large ∷ p7 ∷ p8 ∷ p9 ∷ p10 ∷ session ∷ most-bytes ∷
+    longest ∷ longer ∷ []

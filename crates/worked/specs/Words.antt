@@ -1,4 +1,5 @@
--- Words to write worked rows with. A record is said in full, so that no definition of a step has a part in it. Assumes nothing.
+-- Words to write worked rows with. A record is said in full, so that no definition of a step has a part in it. Assumes
+-- nothing.
 use Prim.Native.Nat.{ℕ, zero, suc, _+_, _-_, _*_, _%_}
 use Prim.Native.String.{String}
 use mathlib.Core.Bool.{Bool, true, false}
@@ -14,7 +15,8 @@ use Rattle.worked.specs.Worked.{Sent, Came, Exchange, Piece, Content, Ro
 
 -- a record: BPL, BP0, WEL, RSTE, the OTP-used mark, the mode and the busy ticks
 abbrev pub held : Bool → Bool → Bool → Bool → Bool → Mode → ℕ → Device
-held bpl bp0 wel rste used mode busy = record { bpl = bpl; bp0 = bp0; wel = wel; rste = rste; used = used; mode = mode; busy = busy }
+held bpl bp0 wel rste used mode busy =
+    record { bpl = bpl; bp0 = bp0; wel = wel; rste = rste; used = used; mode = mode; busy = busy }
 
 -- BPL, BP0, WEL and the busy ticks; RSTE and the OTP-used mark clear, awake
 abbrev pub stands : Bool → Bool → Bool → ℕ → Device
@@ -35,10 +37,11 @@ unfoldable pub counting : ℕ → ℕ → List ℕ
 counting first zero = []
 counting first (suc n) = first % 256 ∷ counting (suc first) n
 
--- a frame of so many bits, with WP high, that takes no time and is lent a byte more of output than it has; of whole bytes; of whole
--- bytes with WP low
+-- a frame of so many bits, with WP high, that takes no time and is lent a byte more of output than it has; of whole
+-- bytes; of whole bytes with WP low
 abbrev pub clocked : ℕ → List ℕ → ℕ → Sent
-clocked bits bytes elapsed = record { bytes = bytes; bits = bits; wp = true; elapsed = elapsed; pace = 0; room = length bytes + 1 }
+clocked bits bytes elapsed =
+    record { bytes = bytes; bits = bits; wp = true; elapsed = elapsed; pace = 0; room = length bytes + 1 }
 
 abbrev pub whole : List ℕ → ℕ → Sent
 whole bytes elapsed = clocked (8 * length bytes) bytes elapsed
@@ -48,15 +51,18 @@ abbrev pub pulled : Sent → Sent
 pulled s = record { bytes = s .bytes; bits = s .bits; wp = false; elapsed = s .elapsed; pace = s .pace; room = s .room }
 
 abbrev pub paced : ℕ → Sent → Sent
-paced pace s = record { bytes = s .bytes; bits = s .bits; wp = s .wp; elapsed = s .elapsed; pace = pace; room = s .room }
+paced pace s =
+    record { bytes = s .bytes; bits = s .bits; wp = s .wp; elapsed = s .elapsed; pace = pace; room = s .room }
 
 abbrev pub given : ℕ → Sent → Sent
-given room s = record { bytes = s .bytes; bits = s .bits; wp = s .wp; elapsed = s .elapsed; pace = s .pace; room = room }
+given room s =
+    record { bytes = s .bytes; bits = s .bits; wp = s .wp; elapsed = s .elapsed; pace = s .pace; room = room }
 
 abbrev pub low : List ℕ → ℕ → Sent
 low bytes elapsed = pulled (whole bytes elapsed)
 
--- what comes back: the number, the outcome, the driven positions, the range of the array that was covered, and the record
+-- what comes back: the number, the outcome, the driven positions, the range of the array that was covered, and the
+-- record
 abbrev replies : ℕ → String → ℕ → ℕ → Range → Device → List ℕ → Came
 replies number outcome first driven covered d output =
     record {
@@ -97,7 +103,8 @@ unfoldable pub unmoved : String → Device → List (List ℕ) → List Exchange
 unmoved outcome d [] = []
 unmoved outcome d (bytes ∷ frames) = (whole bytes 0 ⇒ quiet outcome d (length bytes)) ∷ unmoved outcome d frames
 
--- each of some frames, of whose last byte so many bits are not clocked, is aborted and drops WEL, which 06 then sets again
+-- each of some frames, of whose last byte so many bits are not clocked, is aborted and drops WEL, which 06 then sets
+-- again
 unfoldable pub aborting : ℕ → Device → Device → List (List ℕ) → List Exchange
 aborting cut enabled dropped [] = []
 aborting cut enabled dropped (bytes ∷ frames) =
@@ -124,7 +131,8 @@ unfoldable pub bytes : ℕ → List ℕ → List Piece
 bytes from [] = []
 bytes from (b ∷ bs) = piece from (suc from) b ∷ bytes (suc from) bs
 
--- a row on the whole array with the typical times; the user's half of the register holds FFh, the factory's 80h and on, and both stay
+-- a row on the whole array with the typical times; the user's half of the register holds FFh, the factory's 80h and on,
+-- and both stay
 abbrev pub row : Device → ℕ → List Exchange → List Piece → Row
 row d holds exchanges after =
     record {

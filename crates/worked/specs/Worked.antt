@@ -1,4 +1,5 @@
--- A worked example: frames with what must come out, and what must stand in the record and the memories afterwards. Assumes nothing.
+-- A worked example: frames with what must come out, and what must stand in the record and the memories afterwards.
+-- Assumes nothing.
 use Prim.Native.Nat.{ℕ, _+_, _-_, _*_, _%_}
 use mathlib.Core.Bool.{Bool, cond}
 use mathlib.Core.List.{List, [], _∷_, map}
@@ -11,8 +12,8 @@ use Rattle.settings.specs.declared.Settings.{Settings}
 use Rattle.part.specs.Frame.{Reply, Result}
 use Rattle.series.specs.Series.{Step, State, results, end}
 
--- a frame as it is sent: its bytes, the bits clocked, whether WP is high, the ticks elapsed, the ticks per byte position; and how long
--- an output buffer is lent with it
+-- a frame as it is sent: its bytes, the bits clocked, whether WP is high, the ticks elapsed, the ticks per byte
+-- position; and how long an output buffer is lent with it
 pub record Sent : Type 0 where
   pub bytes : List ℕ
   pub bits : ℕ
@@ -43,8 +44,8 @@ pub record Content : Type 0 where
   pub holds : ℕ
   pub pieces : List Piece
 
--- A row of the table: the settings, the first record, what array and register hold at first, the frames with their replies, and the
--- ranges of array and register that hold something else afterwards.
+-- A row of the table: the settings, the first record, what array and register hold at first, the frames with their
+-- replies, and the ranges of array and register that hold something else afterwards.
 pub record Row : Type 0 where
   pub settings : Settings
   pub device : Device
@@ -69,7 +70,8 @@ stepOf settings array register e =
           record {
             settings = settings;
             input = e .sent .bytes;
-            signals = record { bits = e .sent .bits; wp = e .sent .wp; elapsed = e .sent .elapsed; pace = e .sent .pace };
+            signals = record
+                { bits = e .sent .bits; wp = e .sent .wp; elapsed = e .sent .elapsed; pace = e .sent .pace };
             array = array;
             register = register;
             output = e .sent .room;
