@@ -28,7 +28,7 @@ use Rattle.judge.specs.declared.Facts.{Facts}
 use Rattle.judge.specs.declared.Judged.{Judged}
 use Rattle.judge.specs.declared.Outcome.{Outcome}
 use Rattle.judge.specs.declared.Action.{Action}
-use Rattle.judge.specs.Begins.{changesArray, asksFor, lasts, meansArray}
+use Rattle.judge.specs.Begins.{changesArray, asksFor, lasts, meansArray, worksOnArray}
 use Rattle.device.specs.Device.{awake, deep, ultraDeep, isBusy, unsound, latched, dropped, moved, woken, reset}
 use Rattle.judge.specs.Judging.{quiet, nothing, control, aborted, driven, read, eraseKind, programKind, barred, ordered, carried, obeyed, complete, byOpcode, asleep, onBoundary, judged}
 use Rattle.device.proofs.Records.{sound-then, then-sound}
@@ -144,17 +144,20 @@ isBegun Outcome.Control = false
 isBegun Outcome.Aborted = false
 isBegun Outcome.Begun = true
 
--- takes effect, if the opcode is a program or an erase of the array
-abbrev Acting : Facts → Judged → Type 0
-Acting f j = isBegun (j .outcome) ≡ true → meansArray (rowOf (f .code) .command) ≡ true → changesArray (j .action) ≡ true
+-- was a command that needs WEL: of such a one what holds of each of these commands holds
+abbrev IfBegun : (Judged → Type 0) → Judged → Type 0
+IfBegun P j = isBegun (j .outcome) ≡ true → P j
 
-acting : (d : Device) (s : Settings) (f : Facts) → Acting f (judged d s f)
-acting d s f = each-answer d s f (Acting f) none (λ m. none) (λ m. none) none (λ source e. none) (λ order e h. of-order order) (λ work e h b. of-work work e)
+begun-by-work : (d : Device) (s : Settings) (f : Facts) (P : Judged → Type 0)
+    → ((work : Work) → rowOf (f .code) .command ≡ Works work → isBegun (carried work d s f .outcome) ≡ true → P (carried work d s f))
+    → isBegun (judged d s f .outcome) ≡ true → P (judged d s f)
+begun-by-work d s f P of-work =
+    each-answer d s f (IfBegun P) none (λ m. none) (λ m. none) none (λ source e. none) (λ order e h. of-order order) (λ work e h b. of-work work e)
   where
     none : {A : Type 0} → false ≡ true → A
     none c = absurd (false≢true c)
 
-    of-order : (order : Order) → Acting f (ordered order d f)
+    of-order : (order : Order) → IfBegun P (ordered order d f)
     of-order Enable = none
     of-order Disable = none
     of-order DeepPowerDown = none
@@ -162,54 +165,39 @@ acting d s f = each-answer d s f (Acting f) none (λ m. none) (λ m. none) none 
     of-order Resume = none
     of-order Reset = by (d .rste && eqb (f .second) 0xD0)
       where
-        by : (b : Bool) → Acting f (cond b (control (reset d)) (nothing d))
+        by : (b : Bool) → IfBegun P (cond b (control (reset d)) (nothing d))
         by true = none
         by false = none
 
-    of-work : (work : Work) → rowOf (f .code) .command ≡ Works work → Acting f (carried work d s f)
-    of-work Work.Program e b m = refl
-    of-work (Work.Erase region) e b m = refl
-    of-work Work.Otp e b m = none (sym (ap meansArray e) ∙ m)
-    of-work Work.WriteStatus e b m = none (sym (ap meansArray e) ∙ m)
-    of-work Work.WriteStatusTwo e b m = none b
-
+-- It takes effect, if the opcode is a program or an erase of the array,
 pub begun-acts : (d : Device) (s : Settings) (f : Facts) → judged d s f .outcome ≡ Outcome.Begun → meansArray (rowOf (f .code) .command) ≡ true
     → changesArray (judged d s f .action) ≡ true
-begun-acts d s f e m = acting d s f (ap isBegun e) m
-
--- and takes its full duration, however many ticks the frame itself took
-abbrev Lasting : Settings → Facts → Judged → Type 0
-Lasting s f j = isBegun (j .outcome) ≡ true → j .device .busy ≡ lasts (rowOf (f .code) .command) s f
-
-lasting : (d : Device) (s : Settings) (f : Facts) → Lasting s f (judged d s f)
-lasting d s f =
-    each-answer d s f (Lasting s f) none (λ m. none) (λ m. none) none (λ source e. none) (λ order e h. of-order order) (λ work e h b. of-work work e)
+begun-acts d s f e m = begun-by-work d s f (λ (j : Judged). changesArray (j .action) ≡ true) of-work (ap isBegun e)
   where
-    none : {A : Type 0} → false ≡ true → A
-    none c = absurd (false≢true c)
+    no-array : (work : Work) → rowOf (f .code) .command ≡ Works work → worksOnArray work ≡ false → {A : Type 0} → A
+    no-array work c n = absurd (false≢true (sym n ∙ (sym (ap meansArray c) ∙ m)))
 
-    of-order : (order : Order) → Lasting s f (ordered order d f)
-    of-order Enable = none
-    of-order Disable = none
-    of-order DeepPowerDown = none
-    of-order UltraDeepPowerDown = none
-    of-order Resume = none
-    of-order Reset = by (d .rste && eqb (f .second) 0xD0)
-      where
-        by : (b : Bool) → Lasting s f (cond b (control (reset d)) (nothing d))
-        by true = none
-        by false = none
+    of-work : (work : Work) → rowOf (f .code) .command ≡ Works work → isBegun (carried work d s f .outcome) ≡ true
+        → changesArray (carried work d s f .action) ≡ true
+    of-work Work.Program c b = refl
+    of-work (Work.Erase region) c b = refl
+    of-work Work.Otp c b = no-array Work.Otp c refl
+    of-work Work.WriteStatus c b = no-array Work.WriteStatus c refl
+    of-work Work.WriteStatusTwo c b = no-array Work.WriteStatusTwo c refl
 
-    of-work : (work : Work) → rowOf (f .code) .command ≡ Works work → Lasting s f (carried work d s f)
-    of-work Work.Program e c = rw e
-    of-work (Work.Erase region) e c = rw e
-    of-work Work.Otp e c = rw e
-    of-work Work.WriteStatus e c = rw e
-    of-work Work.WriteStatusTwo e c = none c
-
+-- and it takes its full duration, however many ticks the frame itself took.
 pub full-duration : (d : Device) (s : Settings) (f : Facts) → judged d s f .outcome ≡ Outcome.Begun
     → judged d s f .device .busy ≡ lasts (rowOf (f .code) .command) s f
-full-duration d s f e = lasting d s f (ap isBegun e)
+full-duration d s f e =
+    begun-by-work d s f (λ (j : Judged). j .device .busy ≡ lasts (rowOf (f .code) .command) s f) of-work (ap isBegun e)
+  where
+    of-work : (work : Work) → rowOf (f .code) .command ≡ Works work → isBegun (carried work d s f .outcome) ≡ true
+        → carried work d s f .device .busy ≡ lasts (rowOf (f .code) .command) s f
+    of-work Work.Program c b = rw c
+    of-work (Work.Erase region) c b = rw c
+    of-work Work.Otp c b = rw c
+    of-work Work.WriteStatus c b = rw c
+    of-work Work.WriteStatusTwo c b = absurd (false≢true b)
 
 -- a reset touches no memory, carried out or not
 pub reset-still : (d : Device) (s : Settings) (f : Facts) → rowOf (f .code) .command ≡ Orders Reset → judged d s f .action ≡ Action.Still

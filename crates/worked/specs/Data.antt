@@ -1,13 +1,13 @@
 -- Rows of array and register, worked by hand: data that differs at each place, both sizes of the array, high addresses.
 -- Assumes nothing.
 use Prim.Native.Nat.{ℕ}
-use mathlib.Core.Bool.{true, false}
+use mathlib.Core.Bool.{Bool, true, false}
 use mathlib.Core.List.{List, [], _∷_, _++_}
 use lib.ListN.{length, replicate}
 use Rattle.device.specs.declared.Device.{Device}
 use Rattle.device.specs.declared.Mode.the-variants.{Awake}
 use Rattle.worked.specs.Worked.{Exchange, Piece, Row}
-use Rattle.worked.specs.Frames.{latched, longer, on-array, reads, orders}
+use Rattle.worked.specs.Frames.{latched, longer, on-array, above, reads, orders}
 use Rattle.worked.specs.Words.{held, stands, idle, enabled, busy, counting, clocked, whole, low, pulled, paced}
 use Rattle.worked.specs.Words.{came, quiet, begun, _⇒_, unmoved, aborting, piece, rising, bytes, row, lasting}
 use Rattle.worked.specs.Words.{sized, holding, registered}
@@ -28,20 +28,20 @@ while-busy d =
 abbrev cut-by-four : Row
 cut-by-four =
     row (held true false true true false Awake 0) 0x00
-    (aborting 4 (held true false true true false Awake 0) (held true false false true false Awake 0) longer) []
+    (aborting true 4 (held true false true true false Awake 0) (held true false false true false Awake 0) longer) []
 
 abbrev cut-by-six : Row
 cut-by-six =
     row (held false true true false true Awake 0) 0x00
-    (aborting 6 (held false true true false true Awake 0) (held false true false false true Awake 0) longer) []
+    (aborting true 6 (held false true true false true Awake 0) (held false true false false true Awake 0) longer) []
 
 abbrev cut-by-one : Row
-cut-by-one = row enabled 0x00 (aborting 1 enabled idle longer) []
+cut-by-one = row enabled 0x00 (aborting true 1 enabled idle longer) []
 
--- protected by BP0: BPL does not bear on it
-abbrev guarded-array : Row
-guarded-array =
-    row (stands false true true 0) 0x00 (aborting 0 (stands false true true 0) (stands false true false 0) on-array) []
+-- protected by BP0: neither BPL nor WP bears on it, nor the address
+abbrev guarded-array : Bool → Bool → List (List ℕ) → Row
+guarded-array bpl wp frames =
+    row (stands bpl true true 0) 0x00 (aborting wp 0 (stands bpl true true 0) (stands bpl true false 0) frames) []
 
 -- a part with BPL 1 and BP0 0, the OTP-used mark and RSTE 1; WEL and busy as said
 abbrev worn : ℕ → Device
@@ -168,12 +168,14 @@ reads-small =
     [])
     []))
 
--- a read drives more than a page, and more than the register
+-- a read drives more than a page, by 03 or 0B, and more than the register
 abbrev reads-a-page : Row
 reads-a-page =
     holding (rising 0x0 0x200 0x20 ∷ [])
     (row idle 0x11
     ((low (0x03 ∷ 0x00 ∷ 0x00 ∷ 0x80 ∷ replicate 261 0x00) 0 ⇒ came "read" 4 261 idle (header ++ counting 0xA0 261)) ∷
+    (low (0x0B ∷ 0x00 ∷ 0x00 ∷ 0x80 ∷ 0x00 ∷ replicate 257 0x00) 0 ⇒
+    came "read" 5 257 idle (header ++ 0xFF ∷ counting 0xA0 257)) ∷
     (whole (0x77 ∷ 0x00 ∷ 0x00 ∷ 0x40 ∷ 0x00 ∷ 0x00 ∷ replicate 129 0x00) 0 ⇒
     came "read" 6 129 idle (header ++ (0xFF ∷ 0xFF ∷ []) ++ counting 0x80 64 ++ replicate 64 0xFF ++ (0x80 ∷ []))) ∷
     [])
@@ -349,7 +351,10 @@ data-rows =
     cut-by-four ∷
     cut-by-six ∷
     cut-by-one ∷
-    guarded-array ∷
+    guarded-array false true on-array ∷
+    guarded-array true true on-array ∷
+    guarded-array true false above ∷
+    guarded-array false false above ∷
     programs-four ∷
     programs-four-small ∷
     programs-ff ∷

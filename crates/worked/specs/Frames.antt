@@ -47,6 +47,16 @@ on-array =
     (0x62 ∷ []) ∷
     []
 
+-- the same at 012345h
+abbrev pub above : List (List ℕ)
+above =
+    (0x02 ∷ 0x01 ∷ 0x23 ∷ 0x45 ∷ 0x5A ∷ []) ∷
+    (0x81 ∷ 0x01 ∷ 0x23 ∷ 0x45 ∷ []) ∷
+    (0x20 ∷ 0x01 ∷ 0x23 ∷ 0x45 ∷ []) ∷
+    (0x52 ∷ 0x01 ∷ 0x23 ∷ 0x45 ∷ []) ∷
+    (0xD8 ∷ 0x01 ∷ 0x23 ∷ 0x45 ∷ []) ∷
+    []
+
 -- each read but that of the status, with a byte of data
 abbrev pub reads : List (List ℕ)
 reads =

@@ -113,9 +113,13 @@ refused-rows =
     array-of 131073 ∷
     array-of 65535 ∷
     array-of 65537 ∷
+    array-of 262144 ∷
+    array-of 1 ∷
     array-first ∷
     register-of 127 ∷
     register-of 129 ∷
+    register-of 64 ∷
+    register-of 256 ∷
     register-first ∷
     input-first ∷
     bits ∷

@@ -46,9 +46,13 @@ clocked bits bytes elapsed =
 abbrev pub whole : List ℕ → ℕ → Sent
 whole bytes elapsed = clocked (8 * length bytes) bytes elapsed
 
--- the same frame with WP low; with so many ticks for each of its positions; with so many bytes of output
+-- the same frame with WP at a level, or low; with so many ticks for each of its positions; with so many bytes of output
+abbrev pub levelled : Bool → Sent → Sent
+levelled wp s =
+    record { bytes = s .bytes; bits = s .bits; wp = wp; elapsed = s .elapsed; pace = s .pace; room = s .room }
+
 abbrev pub pulled : Sent → Sent
-pulled s = record { bytes = s .bytes; bits = s .bits; wp = false; elapsed = s .elapsed; pace = s .pace; room = s .room }
+pulled s = levelled false s
 
 abbrev pub paced : ℕ → Sent → Sent
 paced pace s =
@@ -104,13 +108,13 @@ unmoved outcome d [] = []
 unmoved outcome d (bytes ∷ frames) = (whole bytes 0 ⇒ quiet outcome d (length bytes)) ∷ unmoved outcome d frames
 
 -- each of some frames, of whose last byte so many bits are not clocked, is aborted and drops WEL, which 06 then sets
--- again
-unfoldable pub aborting : ℕ → Device → Device → List (List ℕ) → List Exchange
-aborting cut enabled dropped [] = []
-aborting cut enabled dropped (bytes ∷ frames) =
-    (clocked (8 * length bytes - cut) bytes 0 ⇒ quiet "aborted" dropped (length bytes)) ∷
-    (whole (0x06 ∷ []) 0 ⇒ quiet "control" enabled 1) ∷
-    aborting cut enabled dropped frames
+-- again; WP is high or low
+unfoldable pub aborting : Bool → ℕ → Device → Device → List (List ℕ) → List Exchange
+aborting wp cut enabled dropped [] = []
+aborting wp cut enabled dropped (bytes ∷ frames) =
+    (levelled wp (clocked (8 * length bytes - cut) bytes 0) ⇒ quiet "aborted" dropped (length bytes)) ∷
+    (levelled wp (whole (0x06 ∷ []) 0) ⇒ quiet "control" enabled 1) ∷
+    aborting wp cut enabled dropped frames
 
 -- 79h leads to ultra-deep power-down, and each of some frames leads back
 unfoldable pub rousing : Device → Device → List (List ℕ) → List Exchange
