@@ -287,10 +287,10 @@ pub fn judge(device: Device, settings: Settings, facts: Facts) -> Judged
     if facts.bits < 8 {
         return quiet(Outcome::Nothing, device);
     }
-    let row = opcodes::row_of(facts.code);
     if mode.is_deep() {
-        return asleep(row, device, facts);
+        return asleep(opcodes::row_of(facts.code), device, facts);
     }
+    let row = opcodes::row_of(facts.code);
     if facts.busy & !row.busy {
         return quiet(Outcome::Nothing, device);
     }

@@ -18,7 +18,7 @@ enough-bits : (c : tie.Else2) → ltb (c .before .before .before .before .args .
 enough-bits c = le-ltb _ _ (c .if2 .left)
 
 -- past step 3
-not-deep : (c : tie.Else3) → deep (c .before .before .before .before .before .before .before .args .device .mode) ≡ false
+not-deep : (c : tie.Else3) → deep (c .before .before .before .before .before .before .args .device .mode) ≡ false
 not-deep c = sym (c .before .is-deep .ensures) ∙ c .if3 .left
 
 returns : tie.Need-returns
@@ -32,13 +32,13 @@ returns-2 c = rw (not-ultra-deep (c .before .before .before), lt-ltb _ _ (c .bef
 returns-3 : tie.Need-returns-3
 unfolding judged
 returns-3 c =
-    let past = c .before .before .before in
+    let taken = c .before .before in
     rw (
-      not-ultra-deep (past .before .before .before),
-      enough-bits (past .before),
-      sym (c .before .before .is-deep .ensures) ∙ c .before .if3 .taken,
+      not-ultra-deep (taken .before .before .before .before),
+      enough-bits (taken .before .before),
+      sym (taken .before .is-deep .ensures) ∙ taken .if3 .taken,
       c .asleep .ensures,
-      past .row-of .ensures,
+      c .before .row-of .ensures,
     )
 
 returns-4 : tie.Need-returns-4
@@ -48,8 +48,8 @@ returns-4 c =
     rw (
       not-ultra-deep (past .before .before .before .before .before),
       enough-bits (past .before .before .before),
-      not-deep past,
-      rw (past .before .before .row-of .ensures) at (c .before .if4 .taken),
+      not-deep (past .before),
+      rw (past .row-of2 .ensures) at (c .before .if4 .taken),
       c .quiet3 .ensures,
     )
 
@@ -60,10 +60,10 @@ returns-5 c =
     rw (
       not-ultra-deep (past .before .before .before .before .before),
       enough-bits (past .before .before .before),
-      not-deep past,
-      rw (past .before .before .row-of .ensures) at (c .before .if4 .left),
+      not-deep (past .before),
+      rw (past .row-of2 .ensures) at (c .before .if4 .left),
       c .by-opcode .ensures,
-      past .before .before .row-of .ensures,
+      past .row-of2 .ensures,
     )
 
 pub judge-spec : {M : Type 1} → statement M
@@ -80,6 +80,7 @@ judge-spec =
     (λ c κs. search needs)
     (λ c κs. search needs)
     returns-3
+    (λ c κs. search needs)
     (λ c κs. search needs)
     returns-4
     (λ c κs. search needs)
