@@ -68,7 +68,9 @@ begins f a b xs p =
     record {
       low = omega arith;
       high = p;
-      so-far = is-each (over (range a a) f) xs xs refl (λ k l. sym (over-out (range a a) f k (getD xs k 0) (range-none a k)));
+      so-far =
+          is-each (over (range a a) f) xs xs refl
+          (λ k l. sym (over-out (range a a) f k (getD xs k 0) (range-none a k)));
     }
 
 module _ {f : Cell} {a b : ℕ} {xs : List ℕ} {i : ℕ} {ys : List ℕ} (r : Reached f a b xs i ys) where

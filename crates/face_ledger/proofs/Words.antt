@@ -31,7 +31,8 @@ pub as-told-for : (h : Handed) (k : Ticket) (m n : Lent) (d : Device) (s : Setti
 as-told-for h k m n d s g before a number device answer running totals most numbers p q t w e x y z v = rw (x, y, z, v, ← p, ← q, ← t, ← w) (ap (told h k) e)
 
 -- the close of a month, told as words, is the face's
-pub as-closed : (running words : List ℕ) (now old : Tables) (before after : Running) (totals most numbers a b c : List ℕ)
+pub as-closed : (running words : List ℕ) (now old : Tables) (before after : Running)
+    (totals most numbers a b c : List ℕ)
     → isRunning running ≡ true → before ≡ runningOf running
     → ledger totals most numbers after ≡ closed (ledger (now .totals) (now .most) (now .numbers) before)
     → (a ≡ now .totals) × (b ≡ now .most) × (c ≡ now .numbers) → words ≡ asLent running (runningWords after)

@@ -1,5 +1,5 @@
-// Frames through the ledger, and its report, for callers that have only numbers and memories: words that stand for nothing are answered
-// with 255, and then nothing changes.
+// Frames through the ledger, and its report, for callers that have only numbers and memories: words that stand for
+// nothing are answered with 255, and then nothing changes.
 use face_frame::reply;
 use face_words::UNREAD;
 use face_words::as_word;
@@ -107,8 +107,8 @@ fn told_for(
     reply(answered, device, answer)
 }
 
-// One call, one chip-select frame, for an account: its number is the refusal's, 0 if the call is accepted. The words of the record and of
-// the running operation become what then stands, and so do the tables.
+// One call, one chip-select frame, for an account: its number is the refusal's, 0 if the call is accepted. The words of
+// the record and of the running operation become what then stands, and so do the tables.
 #[no_mangle]
 pub extern "C" fn oxterin_ledger_frame(
     device: &mut [u64],
@@ -159,7 +159,8 @@ pub extern "C" fn oxterin_ledger_frame(
     UNREAD
 }
 
-// Closes a month: the three tables are handed out and then empty, and the operation that runs stays its account's, billed nothing so far.
+// Closes a month: the three tables are handed out and then empty, and the operation that runs stays its account's,
+// billed nothing so far.
 #[no_mangle]
 pub extern "C" fn oxterin_close(
     running: &mut [u64],
@@ -171,9 +172,11 @@ pub extern "C" fn oxterin_close(
     old_numbers: &mut [u64; 256],
 ) -> u64
     ensures { λ r. ⌜
-        words.closedWith r (now (running .exit)) (words.tables (now (totals .exit)) (now (most .exit)) (now (numbers .exit)))
+        words.closedWith r (now (running .exit))
+        (words.tables (now (totals .exit)) (now (most .exit)) (now (numbers .exit)))
         (words.tables (now («old_totals» .exit)) (now («old_most» .exit)) (now («old_numbers» .exit))) ≡
-        words.closing (now (running .entry)) (words.tables (now (totals .entry)) (now (most .entry)) (now (numbers .entry)))
+        words.closing (now (running .entry))
+        (words.tables (now (totals .entry)) (now (most .entry)) (now (numbers .entry)))
         (words.tables (now («old_totals» .entry)) (now («old_most» .entry)) (now («old_numbers» .entry)))
         ⌝ }
 {
@@ -194,7 +197,8 @@ pub extern "C" fn oxterin_close(
     UNREAD
 }
 
-// The report on an account, three words: its total, the most ticks billed for one of its operations, and the number of its operations.
+// The report on an account, three words: its total, the most ticks billed for one of its operations, and the number of
+// its operations.
 #[no_mangle]
 pub extern "C" fn oxterin_report<'a>(
     totals: &'a [u64; 256],

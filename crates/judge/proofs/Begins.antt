@@ -120,7 +120,8 @@ stepped-when : (r : Row) (d : Device) (s : Settings) (f : Facts) → rule r ≡ 
     ≡ (awake m && (not (f .busy) && (not (ltb (f .bits) 8) && readyByOpcode r d f)))
 stepped-when r d s f k UltraDeep = refl
 stepped-when r d s f k Deep =
-    either (ltb (f .bits) 8) (nothing d) (asleep r d f) refl (either (r .asleep && onBoundary f) (control (moved d Awake)) (nothing d) refl refl)
+    either (ltb (f .bits) 8) (nothing d) (asleep r d f) refl
+    (either (r .asleep && onBoundary f) (control (moved d Awake)) (nothing d) refl refl)
 stepped-when r d s f k Awake = heard-when r d s f (ltb (f .bits) 8) (f .busy) k
 
 -- A frame begins an operation on the array exactly when all of this holds.

@@ -72,12 +72,14 @@ module _ (d : Device) (s : Settings) (f : Facts) (P : Judged → Type 0) (still 
   each-answer =
       let r = rowOf (f .code) in
       let heard = cond (f .busy && not (r .busy)) (nothing d) (byOpcode r d s f) in
-      choice (ultraDeep (d .mode)) (control (woken d)) (cond (ltb (f .bits) 8) (nothing d) (cond (deep (d .mode)) (asleep (rowOf (f .code)) d f) heard)) waking
+      choice (ultraDeep (d .mode)) (control (woken d))
+      (cond (ltb (f .bits) 8) (nothing d) (cond (deep (d .mode)) (asleep (rowOf (f .code)) d f) heard)) waking
       (λ u.
       choice (ltb (f .bits) 8) (nothing d) (cond (deep (d .mode)) (asleep (rowOf (f .code)) d f) heard) (λ t. still)
       (λ t.
       choice (deep (d .mode)) (asleep (rowOf (f .code)) d f) heard
-      (λ e. choice (rowOf (f .code) .asleep && onBoundary f) (control (moved d Awake)) (nothing d) (λ t. rousing e) (λ t. still))
+      (λ e. choice (rowOf (f .code) .asleep && onBoundary f) (control (moved d Awake)) (nothing d) (λ t. rousing e)
+      (λ t. still))
       (λ e.
       choice (f .busy && not (r .busy)) (nothing d) (byOpcode r d s f) (λ t. still)
       (λ a. of-opcode r (of-command (r .command) refl (record { up = neither (d .mode) u e; answers = a }))))))
@@ -149,10 +151,12 @@ abbrev IfBegun : (Judged → Type 0) → Judged → Type 0
 IfBegun P j = isBegun (j .outcome) ≡ true → P j
 
 begun-by-work : (d : Device) (s : Settings) (f : Facts) (P : Judged → Type 0)
-    → ((work : Work) → rowOf (f .code) .command ≡ Works work → isBegun (carried work d s f .outcome) ≡ true → P (carried work d s f))
+    → ((work : Work) → rowOf (f .code) .command ≡ Works work → isBegun (carried work d s f .outcome) ≡ true
+    → P (carried work d s f))
     → isBegun (judged d s f .outcome) ≡ true → P (judged d s f)
 begun-by-work d s f P of-work =
-    each-answer d s f (IfBegun P) none (λ m. none) (λ m. none) none (λ source e. none) (λ order e h. of-order order) (λ work e h b. of-work work e)
+    each-answer d s f (IfBegun P) none (λ m. none) (λ m. none) none (λ source e. none) (λ order e h. of-order order)
+    (λ work e h b. of-work work e)
   where
     none : {A : Type 0} → false ≡ true → A
     none c = absurd (false≢true c)
@@ -170,7 +174,8 @@ begun-by-work d s f P of-work =
         by false = none
 
 -- It takes effect, if the opcode is a program or an erase of the array,
-pub begun-acts : (d : Device) (s : Settings) (f : Facts) → judged d s f .outcome ≡ Outcome.Begun → meansArray (rowOf (f .code) .command) ≡ true
+pub begun-acts : (d : Device) (s : Settings) (f : Facts) → judged d s f .outcome ≡ Outcome.Begun
+    → meansArray (rowOf (f .code) .command) ≡ true
     → changesArray (judged d s f .action) ≡ true
 begun-acts d s f e m = begun-by-work d s f (λ (j : Judged). changesArray (j .action) ≡ true) of-work (ap isBegun e)
   where

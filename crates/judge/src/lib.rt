@@ -1,5 +1,5 @@
-// Judging a frame: from the record at its rise, the settings and the facts of a frame to the record afterwards, the outcome, the driven
-// positions and what is to be done with the memories, whose contents it never sees.
+// Judging a frame: from the record at its rise, the settings and the facts of a frame to the record afterwards, the
+// outcome, the driven positions and what is to be done with the memories, whose contents it never sees.
 use device::Device;
 use device::Mode;
 use opcodes::Command;
@@ -13,8 +13,8 @@ use settings::Settings;
 ghost use mathlib.Core.Path.{_≡_};
 ghost use Rattle.judge.specs.Judging as judging;
 
-// What is known of a frame without its data: the opcode, the second byte, the address, the number of bytes, the bits clocked, whether WP is
-// high, and whether the part was busy at the frame's first bit.
+// What is known of a frame without its data: the opcode, the second byte, the address, the number of bytes, the bits
+// clocked, whether WP is high, and whether the part was busy at the frame's first bit.
 pub struct Facts {
     pub code: u8,
     pub second: u8,
@@ -34,7 +34,8 @@ pub enum Outcome {
     Begun,
 }
 
-// What is to be done with the memories: nothing, drive bytes of a source, program a page, erase a region, program the register.
+// What is to be done with the memories: nothing, drive bytes of a source, program a page, erase a region, program the
+// register.
 pub enum Action {
     Still,
     Drive(Source),
@@ -43,7 +44,8 @@ pub enum Action {
     Otp,
 }
 
-// The record afterwards, the outcome, the first driven position, the number of driven positions, and what is to be done.
+// The record afterwards, the outcome, the first driven position, the number of driven positions, and what is to be
+// done.
 pub struct Judged {
     pub device: Device,
     pub outcome: Outcome,

@@ -1,5 +1,5 @@
-// The tables of the ledger: what each account was billed, and what is booked of one call. It knows the answer of a call and its ticks, and
-// nothing of frames.
+// The tables of the ledger: what each account was billed, and what is booked of one call. It knows the answer of a call
+// and its ticks, and nothing of frames.
 use calls::Signals;
 use calls::bytes_for;
 use judge::Outcome;
@@ -50,7 +50,8 @@ pub fn nobody() -> Running
     }
 }
 
-// All bits that the words of two tables have among them, each table's gathered in a word of its own: neither waits for the other.
+// All bits that the words of two tables have among them, each table's gathered in a word of its own: neither waits for
+// the other.
 fn gathered<'a>(table: &'a [u64; 256], also: &'a [u64; 256]) -> u64
     ensures { λ r. ⌜ (r ≤ spec.limit → (spec.anyAbove (now (table .entry)) ≡ false) × (spec.anyAbove (now (also .entry)) ≡ false)) ⌝ }
 {
@@ -99,7 +100,8 @@ pub fn is_shut<'a>(account: u64, totals: &'a [u64; 256], numbers: &'a [u64; 256]
     any_above(totals, numbers)
 }
 
-// What comes off the busy ticks when ticks elapse and so many positions each take the pace. The product is formed where it fits.
+// What comes off the busy ticks when ticks elapse and so many positions each take the pace. The product is formed where
+// it fits.
 fn came_off(busy: u64, elapsed: u64, positions: u64, pace: u64) -> u64
     ensures { λ r. ⌜ r ≡ min busy (elapsed + positions * pace) ⌝ }
 {
@@ -242,8 +244,8 @@ fn hand_out(table: &mut [u64; 256], out: &mut [u64; 256])
     *table = [0; 256];
 }
 
-// Closes a month: the tables are handed out and then empty. The operation that runs stays its account's, and its next ticks are the first
-// that it is billed in the new month.
+// Closes a month: the tables are handed out and then empty. The operation that runs stays its account's, and its next
+// ticks are the first that it is billed in the new month.
 pub fn close(
     mut running: Running,
     totals: &mut [u64; 256],

@@ -1,5 +1,5 @@
-// One frame for an account: busy ticks are billed to the account whose frame began the operation, whoever polls afterwards. It stands above
-// the part and sees what that promises: refusal, outcome and busy ticks.
+// One frame for an account: busy ticks are billed to the account whose frame began the operation, whoever polls
+// afterwards. It stands above the part and sees what that promises: refusal, outcome and busy ticks.
 use calls::Signals;
 use device::Device;
 use ledger::Running;
@@ -21,7 +21,8 @@ pub struct Booked {
     pub running: Running,
 }
 
-// One call for an account: whatever is handed in, it ends, and answers as the definition of a frame through the ledger says.
+// One call for an account: whatever is handed in, it ends, and answers as the definition of a frame through the ledger
+// says.
 pub fn frame_for(
     device: Device,
     settings: Settings,

@@ -1,4 +1,5 @@
--- From an empty ledger each account's entries are those of its operations; from a closed one, with the rest of what is running.
+-- From an empty ledger each account's entries are those of its operations; from a closed one, with the rest of what is
+-- running.
 -- Assumes nothing.
 use Prim.Native.Nat.{ℕ, zero, suc, _+_, _<_, _≤_, min, max}
 use mathlib.Core.Bool.{Bool, true, false, cond}
@@ -9,7 +10,8 @@ use borrow.Author.Tests.{ne-eqb}
 use lib.Dec.{eqb}
 use lib.ListN.{length, getD, replicate, length-replicate, getD-replicate}
 use Rattle.device.specs.declared.Device.{Device}
-use Rattle.ledger.specs.Ledger.{Ledger, empty, closed}
+use Rattle.ledger.specs.declared.Running.{Running}
+use Rattle.ledger.specs.Ledger.{Ledger, ledger, runs, nobody, empty, closed}
 use Rattle.ledger_series.specs.Entries.{Entry, calls, lastLedger}
 use Rattle.ledger_series.specs.Operations.{passed, operations, bills, sum, largest, busyTicks}
 use Rattle.ledger_series.specs.Ledgers.{Whole, Right, rest}
@@ -17,8 +19,12 @@ use Rattle.ledger_series.proofs.Totals.{total, number}
 use Rattle.ledger_series.proofs.Most.{most}
 use Rattle.ledger_series.proofs.Together.{together}
 
+-- tables of zeros have an entry for each account
+whole-zeros : (r : Running) → Whole (ledger (replicate 256 0) (replicate 256 0) (replicate 256 0) r)
+whole-zeros r = let long = length-replicate {A = ℕ} 256 0 in record { totals = long; most = long; numbers = long }
+
 whole-empty : Whole empty
-whole-empty = record { totals = length-replicate {A = ℕ} 256 0; most = length-replicate {A = ℕ} 256 0; numbers = length-replicate {A = ℕ} 256 0 }
+whole-empty = whole-zeros nobody
 
 pub right-empty : (busy : ℕ) → Right empty busy
 right-empty busy = record { whole = whole-empty; fair = λ own. absurd (omega arith) }
@@ -28,10 +34,7 @@ zeros account low = getD-replicate 256 account 0 0 low
 
 pub right-closed : (l : Ledger) (busy : ℕ) → busy ≤ 60000000 → Right (closed l) busy
 right-closed l busy short =
-    record {
-      whole = record { totals = length-replicate {A = ℕ} 256 0; most = length-replicate {A = ℕ} 256 0; numbers = length-replicate {A = ℕ} 256 0 };
-      fair = λ own. (omega arith, omega arith);
-    }
+    record { whole = whole-zeros (runs (l .running .account) 0); fair = λ own. (omega arith, omega arith) }
 
 -- a bill of 0 is none
 no-bill : (b : Bool) (n : ℕ) → max 0 (cond b (0 + n) 0) ≡ cond b n 0
@@ -40,12 +43,18 @@ no-bill false n = refl
 
 pub from-closed : (es : List Entry) (d : Device) (l : Ledger) (account : ℕ) → account < 256 → d .busy ≤ 60000000
     → let cs = calls es d (closed l) in
-    (getD (lastLedger es d (closed l) .totals) account 0 ≡ rest account (l .running) (d .busy) (passed cs) + sum (bills account (operations cs)))
-    × (getD (lastLedger es d (closed l) .most) account 0 ≡ max (rest account (l .running) (d .busy) (passed cs)) (largest (bills account (operations cs))))
+    (getD (lastLedger es d (closed l) .totals) account 0
+    ≡ rest account (l .running) (d .busy) (passed cs) + sum (bills account (operations cs)))
+    × (getD (lastLedger es d (closed l) .most) account 0
+    ≡ max (rest account (l .running) (d .busy) (passed cs)) (largest (bills account (operations cs))))
     × (getD (lastLedger es d (closed l) .numbers) account 0 ≡ length (bills account (operations cs)))
 from-closed es d l account low short = (
   total account es d (closed l) low (right-closed l (d .busy) short .whole) ∙ rw (zeros account low) (omega arith),
-  most account es d (closed l) low (right-closed l (d .busy) short) ∙ rw (zeros account low, no-bill (eqb (l .running .account) account) (min (d .busy) (passed (calls es d (closed l))))),
+  most account es d (closed l) low (right-closed l (d .busy) short) ∙
+      rw (
+        zeros account low,
+        no-bill (eqb (l .running .account) account) (min (d .busy) (passed (calls es d (closed l)))),
+      ),
   number account es d (closed l) low (right-closed l (d .busy) short .whole) ∙ rw (zeros account low) (omega arith),
 )
 

@@ -81,13 +81,19 @@ fair-step c l l′ busy busy′ w fair (Stepped.going acc beg left after) = rw a
 
 pub right-step : (c : Done) (l l′ : Ledger) (busy busy′ : ℕ) → Right l busy → Stepped c l l′ busy busy′ → Right l′ busy′
 right-step c l l′ busy busy′ r s =
-    record { whole = whole-step c l l′ busy busy′ (r .whole) s; fair = fair-step c l l′ busy busy′ (r .whole) (r .fair) s }
+    record {
+      whole = whole-step c l l′ busy busy′ (r .whole) s;
+      fair = fair-step c l l′ busy busy′ (r .whole)
+          (r .fair) s;
+    }
 
--- of a property of the last ledger, told from the ledger, the busy ticks and the calls still to come, where each step keeps what it needs
+-- of a property of the last ledger, told from the ledger, the busy ticks and the calls still to come, where each step
+-- keeps what it needs
 pub in-the-end : (Needs : Ledger → ℕ → Type 0)
     → ((c : Done) (l l′ : Ledger) (busy busy′ : ℕ) → Needs l busy → Stepped c l l′ busy busy′ → Needs l′ busy′)
     → (P : Ledger → Ledger → ℕ → List Done → Type 0) → ((l : Ledger) (busy : ℕ) → Needs l busy → P l l busy [])
-    → ((last : Ledger) (c : Done) (cs : List Done) (l l′ : Ledger) (busy′ : ℕ) → Needs l (c .call .device .busy) → Stepped c l l′ (c .call .device .busy) busy′
+    → ((last : Ledger) (c : Done) (cs : List Done) (l l′ : Ledger) (busy′ : ℕ) → Needs l (c .call .device .busy)
+    → Stepped c l l′ (c .call .device .busy) busy′
     → P last l′ busy′ cs → P last l (c .call .device .busy) (c ∷ cs))
     → (es : List Entry) (d : Device) (l : Ledger) → Needs l (d .busy) → P (lastLedger es d l) l (d .busy) (calls es d l)
 unfolding run.end run.gathered
@@ -101,9 +107,11 @@ in-the-end Needs keeps P base step (e ∷ es) d l r =
     (in-the-end Needs keeps P base step es d′ l′ (keeps c l l′ (d .busy) (d′ .busy) r after))
 
 -- what is needed is there at the end too
-pub stays-right : (es : List Entry) (d : Device) (l : Ledger) → Right l (d .busy) → Right (lastLedger es d l) (lastRecord es d l .busy)
+pub stays-right : (es : List Entry) (d : Device) (l : Ledger) → Right l (d .busy)
+    → Right (lastLedger es d l) (lastRecord es d l .busy)
 unfolding run.end
 stays-right [] d l r = r
 stays-right (e ∷ es) d l r =
     let d′ = replyTo e d l .device in
-    stays-right es d′ (ledgerBy e d l) (right-step (doneOf e d l) l (ledgerBy e d l) (d .busy) (d′ .busy) r (stepped e d l))
+    stays-right es d′ (ledgerBy e d l)
+    (right-step (doneOf e d l) l (ledgerBy e d l) (d .busy) (d′ .busy) r (stepped e d l))

@@ -4,7 +4,8 @@ use mathlib.Core.Bool.{Bool, true, false, cond}
 use mathlib.Core.List.{List, [], _∷_, map}
 use mathlib.Core.Path.{_≡_, refl, sym, ap, _∙_}
 use Rattle.runs.specs.Run as run
-use Rattle.runs.proofs.Laws.{gathered-mapped, end-seen, gathered-seen, end-alike, gathered-alike, outputs-alike, as-the-run, can-be-run as run-of}
+use Rattle.runs.proofs.Laws.{gathered-mapped, end-seen, gathered-seen, end-alike, gathered-alike, outputs-alike}
+use Rattle.runs.proofs.Laws.{as-the-run, can-be-run as run-of}
 use Rattle.calls.specs.declared.Lengths.{Lengths}
 use Rattle.refusals.specs.declared.Refusal.{Refusal}
 use Rattle.part.specs.declared.Answer.{Answer}
@@ -20,7 +21,8 @@ use Rattle.ledger.specs.Ledger.{booked}
 use Rattle.ledger_frame.specs.Frame.{Result, shutOut, replied, frame}
 use Rattle.ledger_series.specs.Entries as entries
 use Rattle.ledger_series.specs.Entries.{Entry, Done, Books, entry, books, replyTo, ledgerBy, calls, lastRecord, lastLedger, turnsThrough}
-use Rattle.ledger_series.specs.Series.{Booking, Desk, Made, entriesOf, resultOf, left, next, results, end, letThrough, stepsThrough, resultThrough, resultsThrough, madeOf, Ran}
+use Rattle.ledger_series.specs.Series.{Booking, Desk, Made, entriesOf, resultOf, left, next, results, end}
+use Rattle.ledger_series.specs.Series.{letThrough, stepsThrough, resultThrough, resultsThrough, madeOf, Ran}
 use Rattle.ledger_series.specs.Promises.{answersOf}
 
 abbrev booksOf : Desk → Books
@@ -93,7 +95,8 @@ module _ (b : Booking) (t : Desk) where
 
   -- a call that is let through is answered by the part, and leaves what the part leaves
   result-through : (shut : Bool) → shutTo (lengthsOf turn) ≡ shut
-      → cond shut [] (record { reply = resultOf b t .reply; lent = resultOf b t .lent } ∷ []) ≡ cond shut [] (series.resultOf (b .step) (t .state) ∷ [])
+      → cond shut [] (record { reply = resultOf b t .reply; lent = resultOf b t .lent } ∷ [])
+      ≡ cond shut [] (series.resultOf (b .step) (t .state) ∷ [])
   unfolding frame replied part.frame
   result-through true e = refl
   result-through false e = rw (same-lengths (b .step) (t .state), e)
@@ -102,7 +105,8 @@ module _ (b : Booking) (t : Desk) where
   unfolding run.gathered
   results-on = result-through (shutTo (lengthsOf turn)) refl ∙ by (shutTo (lengthsOf turn))
     where
-      by : (shut : Bool) → cond shut [] (series.resultOf (b .step) (t .state) ∷ []) ≡ series.results (cond shut [] (b .step ∷ [])) (t .state)
+      by : (shut : Bool) → cond shut [] (series.resultOf (b .step) (t .state) ∷ [])
+          ≡ series.results (cond shut [] (b .step ∷ [])) (t .state)
       by true = refl
       by false = refl
 
@@ -126,8 +130,11 @@ module _ (b : Booking) (t : Desk) where
 pub as-the-part : (bs : List Booking) (t : Desk) → end bs t .state ≡ series.end (stepsThrough bs t) (t .state)
 as-the-part = end-seen next series.next (λ (t : Desk). t .state) letThrough state-on
 
-pub answers-as-the-part : (bs : List Booking) (t : Desk) → resultsThrough bs t ≡ series.results (stepsThrough bs t) (t .state)
-answers-as-the-part = gathered-seen next series.next (λ (t : Desk). t .state) letThrough state-on resultThrough (run.one series.resultOf) results-on
+pub answers-as-the-part : (bs : List Booking) (t : Desk) → resultsThrough bs t
+    ≡ series.results (stepsThrough bs t) (t .state)
+answers-as-the-part =
+    gathered-seen next series.next (λ (t : Desk). t .state) letThrough state-on resultThrough
+    (run.one series.resultOf) results-on
 
 pub as-computed : (bs : List Booking) (t : Desk)
     → (map replyIn (results bs t) ≡ answersOf (calls (entriesOf bs) (t .state .device) (t .ledger)))

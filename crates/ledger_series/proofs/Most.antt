@@ -92,5 +92,6 @@ pub most : (account : ℕ) (es : List Entry) (d : Device) (l : Ledger) → accou
     → getD (lastLedger es d l .most) account 0 ≡ mostAfter account l (d .busy) (calls es d l)
 unfolding passed operations bills largest
 most account es d l low =
-    in-the-end Right right-step (λ (last l : Ledger) (busy : ℕ) (cs : List Done). getD (last .most) account 0 ≡ mostAfter account l busy cs) (λ l busy r. so-far account l busy (r .fair) low)
+    in-the-end Right right-step (λ (last l : Ledger) (busy : ℕ) (cs : List Done). getD (last .most) account 0
+    ≡ mostAfter account l busy cs) (λ l busy r. so-far account l busy (r .fair) low)
     (λ last c cs l l′ busy′ r after e. e ∙ most-step account c cs l l′ (c .call .device .busy) busy′ low (r .whole) (r .fair) after) es d l

@@ -25,7 +25,8 @@ use Rattle.ledger_series.proofs.Totals.{total, number}
 use Rattle.ledger_series.proofs.Most.{most}
 use Rattle.ledger_series.proofs.Together.{together}
 use Rattle.ledger_series.proofs.Polls.{whoever-polls, refused-changes-nothing}
-use Rattle.ledger_series.proofs.Memories.{as-the-part, answers-as-the-part, as-computed, as-the-code-does, can-be-run}
+use Rattle.ledger_series.proofs.Memories.{as-the-part, answers-as-the-part, as-computed, as-the-code-does}
+use Rattle.ledger_series.proofs.Memories.{can-be-run}
 
 never-from-stored-bytes : (bs also : List Booking) (t u : Desk) → entriesOf bs ≡ entriesOf also → t .state .device ≡ u .state .device → t .ledger ≡ u .ledger
     → (map (λ (r : Result). r .reply) (results bs t) ≡ map (λ (r : Result). r .reply) (results also u)) × (end bs t .ledger ≡ end also u .ledger)

@@ -64,6 +64,8 @@ pub together : (es : List Entry) (d : Device) (l : Ledger) → Whole l
     → sum (lastLedger es d l .totals) + nobodys l (d .busy) (calls es d l) ≡ sum (l .totals) + busyTicks (calls es d l)
 unfolding passed busyTicks
 together =
-    in-the-end (λ (l : Ledger) (busy : ℕ). Whole l) whole-step (λ (last l : Ledger) (busy : ℕ) (cs : List Done). sum (last .totals) + nobodys l busy cs ≡ sum (l .totals) + busyTicks cs)
+    in-the-end (λ (l : Ledger) (busy : ℕ). Whole l) whole-step
+    (λ (last l : Ledger) (busy : ℕ) (cs : List Done). sum (last .totals) + nobodys l busy cs
+    ≡ sum (l .totals) + busyTicks cs)
     (λ l busy r. none-left (isAccount (l .running .account)) (sum (l .totals)) busy)
     (λ last c cs l l′ busy′ r after e. together-step (sum (last .totals)) c cs l l′ busy′ r after e)

@@ -72,9 +72,11 @@ pub total : (account : ℕ) (es : List Entry) (d : Device) (l : Ledger) → acco
     → getD (lastLedger es d l .totals) account 0 ≡ totalAfter account l (d .busy) (calls es d l)
 unfolding passed operations bills sum
 total account es d l low =
-    in-the-end (λ (l : Ledger) (busy : ℕ). Whole l) whole-step (λ (last l : Ledger) (busy : ℕ) (cs : List Done). getD (last .totals) account 0 ≡ totalAfter account l busy cs)
+    in-the-end (λ (l : Ledger) (busy : ℕ). Whole l) whole-step
+    (λ (last l : Ledger) (busy : ℕ) (cs : List Done). getD (last .totals) account 0 ≡ totalAfter account l busy cs)
     (λ l busy r. rw (none-later (eqb (l .running .account) account) busy) (omega arith))
-    (λ last c cs l l′ busy′ r after e. e ∙ total-step account c cs l l′ (c .call .device .busy) busy′ low r after) es d l
+    (λ last c cs l l′ busy′ r after e. e ∙ total-step account c cs l l′ (c .call .device .busy) busy′ low r after) es d
+    l
 
 one-more : (own : Bool) (number bill : ℕ) (bs : List ℕ) → cond own (suc number) number + length bs ≡ number + length (cond own (bill ∷ bs) bs)
 one-more true number bill bs = omega arith
@@ -93,5 +95,8 @@ pub number : (account : ℕ) (es : List Entry) (d : Device) (l : Ledger) → acc
     → getD (lastLedger es d l .numbers) account 0 ≡ numberAfter account l (calls es d l)
 unfolding operations bills
 number account es d l low =
-    in-the-end (λ (l : Ledger) (busy : ℕ). Whole l) whole-step (λ (last l : Ledger) (busy : ℕ) (cs : List Done). getD (last .numbers) account 0 ≡ numberAfter account l cs) (λ l busy r. omega arith)
-    (λ last c cs l l′ busy′ r after e. e ∙ number-step account c cs l l′ (c .call .device .busy) busy′ low r after) es d l
+    in-the-end (λ (l : Ledger) (busy : ℕ). Whole l) whole-step
+    (λ (last l : Ledger) (busy : ℕ) (cs : List Done). getD (last .numbers) account 0 ≡ numberAfter account l cs)
+    (λ l busy r. omega arith)
+    (λ last c cs l l′ busy′ r after e. e ∙ number-step account c cs l l′ (c .call .device .busy) busy′ low r after) es d
+    l

@@ -11,7 +11,8 @@ use Rattle.ledger.specs.Ledger.{aboveBefore, booked}
 use Rattle.ledger_series.specs.Worked.{Worked}
 
 pub worked : Worked
-unfolding run.end run.gathered replied booked aboveBefore part.replied part.numberFor part.judgedOf refusalOf anyUnfair judged byOpcode rowOf rows lookup
+unfolding run.end run.gathered replied booked aboveBefore part.replied part.numberFor part.judgedOf refusalOf anyUnfair
+    judged byOpcode rowOf rows lookup
 worked =
     record {
       at-the-limit = refl;

@@ -1,5 +1,5 @@
-// The lent memories by their lengths: the sizes that an array and a security register may have, and a look at one of them without a frame.
-// The one crate that lists sizes. It sees lengths, never a byte, and nothing of flash or text.
+// The lent memories by their lengths: the sizes that an array and a security register may have, and a look at one of
+// them without a frame. The one crate that lists sizes. It sees lengths, never a byte, and nothing of flash or text.
 ghost use mathlib.Core.Bool.{true, cond};
 ghost use mathlib.Core.List.{[]};
 ghost use mathlib.Core.Path.{_≡_};
@@ -29,8 +29,8 @@ pub fn is_register(length: usize) -> bool
     length == 128
 }
 
-// The view of a memory that begins at an address; it has as many bytes as asked for, unless the memory ends before that. Empty if the
-// memory's length is not right.
+// The view of a memory that begins at an address; it has as many bytes as asked for, unless the memory ends before
+// that. Empty if the memory's length is not right.
 fn view(memory: &[u8], right: bool, address: usize, count: usize) -> &[u8]
     requires { ⌜ (right ≡ true → 0 < length (now memory)) ⌝ }
     ensures { λ r. ⌜ now r ≡ cond right (viewOf (now (memory .entry)) address count) [] ⌝ }
@@ -48,8 +48,8 @@ fn view(memory: &[u8], right: bool, address: usize, count: usize) -> &[u8]
     &memory[..0]
 }
 
-// A view of the chosen memory itself: it begins at the address, reduced to the memory's size, and is as long as the count, but ends
-// where the memory ends.
+// A view of the chosen memory itself: it begins at the address, reduced to the memory's size, and is as long as the
+// count, but ends where the memory ends.
 pub fn look<'a>(
     array: &'a [u8],
     register: &'a [u8],

@@ -20,7 +20,17 @@ module _ (numbers : List ℕ) (i code : ℕ) (w : Row) (left : sought code (drop
 
   -- the row at i has the opcode: it is the one
   pub here : (command : Command) → command ≡ row .command → row .code ≡ code
-      → record { code = code; bytes = row .bytes; first = row .first; most = row .most; boundary = row .boundary; latch = row .latch; busy = row .busy; asleep = row .asleep; command = command } ≡ w
+      → record {
+        code = code;
+        bytes = row .bytes;
+        first = row .first;
+        most = row .most;
+        boundary = row .boundary;
+        latch = row .latch;
+        busy = row .busy;
+        asleep = row .asleep;
+        command = command;
+      } ≡ w
   unfolding lookup
   here command c e = rw (c, sym e) (rw (eq-eqb (row .code) code e) at (from-here (sought code) numbers i w left 0 l))
 

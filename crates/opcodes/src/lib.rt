@@ -3,8 +3,8 @@ ghost use mathlib.Core.Path.{_≡_};
 ghost use Rattle.opcodes.specs.Commands.{commandOf};
 ghost use Rattle.opcodes.specs.Rows.{rowOf};
 
-// Where a read takes the bytes that it drives: the array, the security register, the status bytes, the device's identity, or its
-// legacy identity.
+// Where a read takes the bytes that it drives: the array, the security register, the status bytes, the device's
+// identity, or its legacy identity.
 pub enum Source {
     Array,
     Register,
@@ -48,9 +48,9 @@ pub enum Command {
     Works(Work),
 }
 
-// The fixed facts of an opcode: the fewest bytes that it needs, the first position that a read drives and the most that it drives,
-// whether it needs a byte boundary, whether it needs the latch, whether a busy part answers it, whether a part in deep power-down does, and
-// what it does.
+// The fixed facts of an opcode: the fewest bytes that it needs, the first position that a read drives and the most that
+// it drives, whether it needs a byte boundary, whether it needs the latch, whether a busy part answers it, whether a
+// part in deep power-down does, and what it does.
 pub struct Row {
     pub code: u8,
     pub bytes: u8,
@@ -63,8 +63,9 @@ pub struct Row {
     pub command: Command,
 }
 
-// The rows, a number each, by its hexadecimal digits: the opcode, the fewest bytes, the first position, the most positions (FFFF: as
-// many as the frame has), boundary, latch, busy, asleep, and the number of its command, which `command_of` spells out.
+// The rows, a number each, by its hexadecimal digits: the opcode, the fewest bytes, the first position, the most
+// positions (FFFF: as many as the frame has), boundary, latch, busy, asleep, and the number of its command, which
+// `command_of` spells out.
 const ROWS: [u64; 23] = [
     0x03_1_4_FFFF_0_0_0_0_01,
     0x0B_1_5_FFFF_0_0_0_0_01,

@@ -14,7 +14,8 @@ use Rattle.cells.proofs.Places.{length-each, each-same, each-then}
 use Rattle.cells.proofs.Laws.{erase-twice}
 use Rattle.pages.proofs.Laws.{programs-commute, program-twice}
 use Rattle.operations.specs.Operations.{Operation, none, program, erase, cellOf}
-use Rattle.operations.specs.Bytes.{Program, carried, applied, through, erases, erasedIn, since, byteOf, bytesAt, andAll, startAt, programOf}
+use Rattle.operations.specs.Bytes.{Program, carried, applied, through, erases, erasedIn, since, byteOf, bytesAt}
+use Rattle.operations.specs.Bytes.{andAll, startAt, programOf}
 
 -- two lists joined: the second on what the first one left
 pub applied-joined : (os ps : List Operation) (xs : List ℕ) → applied (os ++ ps) xs ≡ applied ps (applied os xs)

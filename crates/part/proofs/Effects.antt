@@ -66,13 +66,18 @@ module _ (c : Call) (m : Lent) where
       by false t e = absurd (false≢true e)
 
   -- a program or an erase of the array that is reported as begun took effect
-  pub begun-took-effect : meansArray (rowOf (factsOf c .code) .command) ≡ true → frame c m .reply .outcome ≡ "begun" → takesEffect c (lengthsOf c m) ≡ true
+  pub begun-took-effect : meansArray (rowOf (factsOf c .code) .command) ≡ true → frame c m .reply .outcome ≡ "begun"
+      → takesEffect c (lengthsOf c m) ≡ true
   unfolding frame replied judgedOf
   begun-took-effect means e = by (eqb (numberFor c (lengthsOf c m)) 0) e
     where
-      by : (b : Bool) → cond b (answered (judgedOf c) (coveredBy (judgedOf c) c (lengthsOf c m))) (refused (numberFor c (lengthsOf c m)) (c .device)) .outcome ≡ "begun"
+      by : (b : Bool)
+          → cond b (answered (judgedOf c) (coveredBy (judgedOf c) c (lengthsOf c m)))
+          (refused (numberFor c (lengthsOf c m)) (c .device)) .outcome ≡ "begun"
           → (b && ready (risen c) (factsOf c)) ≡ true
-      by true e = sym begins ∙ begun-acts (risen c) (c .settings) (factsOf c) (word-tells (judgedOf c .outcome) Outcome.Begun e) means
+      by true e =
+          sym begins ∙
+          begun-acts (risen c) (c .settings) (factsOf c) (word-tells (judgedOf c .outcome) Outcome.Begun e) means
       by false e = absurd (true≢false (ap (λ (w : String). eqt w "nothing") e))
 
   -- what is begun, on whatever memory, takes its full duration from the rise on: neither the ticks elapsed nor the frame's come off it
@@ -83,7 +88,9 @@ module _ (c : Call) (m : Lent) where
       lasts-for : ℕ
       lasts-for = lasts (rowOf (factsOf c .code) .command) (c .settings) (factsOf c)
 
-      by : (b : Bool) → cond b (answered (judgedOf c) (coveredBy (judgedOf c) c (lengthsOf c m))) (refused (numberFor c (lengthsOf c m)) (c .device)) .outcome ≡ "begun"
+      by : (b : Bool)
+          → cond b (answered (judgedOf c) (coveredBy (judgedOf c) c (lengthsOf c m)))
+          (refused (numberFor c (lengthsOf c m)) (c .device)) .outcome ≡ "begun"
           → cond b (answered (judgedOf c) (coveredBy (judgedOf c) c (lengthsOf c m))) (refused (numberFor c (lengthsOf c m)) (c .device)) .device .busy ≡ lasts-for
       by true e = full-duration (risen c) (c .settings) (factsOf c) (word-tells (judgedOf c .outcome) Outcome.Begun e)
       by false e = absurd (true≢false (ap (λ (w : String). eqt w "nothing") e))

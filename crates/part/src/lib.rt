@@ -21,8 +21,8 @@ ghost use Rattle.refusals.specs.Refusals.{numberOf};
 ghost use Rattle.calls.specs.Refusal.{bytesFor};
 ghost use Rattle.part.specs.Frame as spec;
 
-// Why the call was refused, its outcome, the first driven position, how many are driven, the range of the array that it covered, and the
-// record as it then stands.
+// Why the call was refused, its outcome, the first driven position, how many are driven, the range of the array that it
+// covered, and the record as it then stands.
 pub struct Answer {
     pub refusal: Refusal,
     pub outcome: Outcome,
@@ -99,8 +99,8 @@ pub fn turned_away<'a>(
     refused(own, device)
 }
 
-// An accepted call: time passes up to the frame's first bit and on to its rise, the frame is judged, the output shows what the part drives,
-// and what is to be done is done.
+// An accepted call: time passes up to the frame's first bit and on to its rise, the frame is judged, the output shows
+// what the part drives, and what is to be done is done.
 fn served(
     device: Device,
     settings: Settings,

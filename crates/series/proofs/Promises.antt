@@ -69,10 +69,13 @@ as-carried-out ss t =
     ap (λ (os : List Operation). applied os (t .array)) (gathered-alike next onward deviceIn turnIn going-on effectIn effectOf (λ s t. refl) ss t)
 
 -- two series whose operations leave the same of an array leave the same
-alike-in-the-end : (ss also : List Step) (t u : State) (os qs : List Operation) → t .array ≡ u .array → effects ss t ≡ os → effects also u ≡ qs
+alike-in-the-end : (ss also : List Step) (t u : State) (os qs : List Operation) → t .array ≡ u .array → effects ss t
+    ≡ os → effects also u ≡ qs
     → applied os (t .array) ≡ applied qs (t .array) → end ss t .array ≡ end also u .array
 alike-in-the-end ss also t u os qs same e f leave =
-    as-carried-out ss t ∙ (rw e (leave ∙ rw same refl) ∙ (ap (λ (ps : List Operation). applied ps (u .array)) (sym f) ∙ sym (as-carried-out also u)))
+    as-carried-out ss t ∙
+    (rw e (leave ∙ rw same refl) ∙
+    (ap (λ (ps : List Operation). applied ps (u .array)) (sym f) ∙ sym (as-carried-out also u)))
 
 never-from-stored-bytes : (ss also : List Step) (t u : State) → turnsOf ss ≡ turnsOf also → t .device ≡ u .device
     → (map replyIn (results ss t) ≡ map replyIn (results also u)) × (end ss t .device ≡ end also u .device) × (effects ss t ≡ effects also u)
@@ -187,9 +190,12 @@ promises =
       and-since-the-last-erase = and-since-the-last-erase;
       change-places = programs-exchanged;
       series-change-places =
-          λ ss also t u before after between p q same e f. alike-in-the-end ss also t u _ _ same e f (programs-exchanged before after between p q (t .array));
+          λ ss also t u before after between p q same e f. alike-in-the-end ss also t u _ _ same e f
+          (programs-exchanged before after between p q (t .array));
       twice-is-once = operation-twice;
-      series-twice-is-once = λ ss also t u before after o same e f. alike-in-the-end ss also t u _ _ same e f (operation-twice before after o (t .array));
+      series-twice-is-once =
+          λ ss also t u before after o same e f. alike-in-the-end ss also t u _ _ same e f
+          (operation-twice before after o (t .array));
       refused-changes-nothing =
           λ before after s t n.
           (same-operations before after s t n, same-end before after s t n, gathered-joined next (run.one resultOf) before after t, own-result before after s t n);

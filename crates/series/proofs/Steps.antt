@@ -64,7 +64,8 @@ module _ (s : Step) (t : State) where
   -- it is left with what the action does to it
   pub done-is : left (resultOf s t) t .array ≡ applied (doneOf (s .turn) (t .device)) (t .array)
   unfolding frame applied
-  done-is = rw same-lengths (by (eqb (numberFor c (lengthsOf (s .turn))) 0) (eqb-true (numberFor c (lengthsOf (s .turn))) 0))
+  done-is =
+      rw same-lengths (by (eqb (numberFor c (lengthsOf (s .turn))) 0) (eqb-true (numberFor c (lengthsOf (s .turn))) 0))
     where
       by : (b : Bool) → (b ≡ true → numberFor c (lengthsOf (s .turn)) ≡ 0)
           → returned (cond b (part.lentAfter c m) m .array) (t .array)
@@ -72,7 +73,8 @@ module _ (s : Step) (t : State) where
       by true z =
           let listed = accepted-turn (s .turn) (t .device) (refusal-is (s .turn) (t .device) ∙ z refl) .array in
           rw (length-lent (s .turn .array) (t .array) (s .behind .array))
-          (returned-each (cellOf (onArray (judgedOf c .action) (s .turn .array) (s .turn .input))) (s .turn .array) (t .array) (s .behind .array)
+          (returned-each (cellOf (onArray (judgedOf c .action) (s .turn .array) (s .turn .input))) (s .turn .array)
+          (t .array) (s .behind .array)
           (operation-inside (judgedOf c .action) (s .turn .array) (s .turn .input) listed))
       by false z = returned-same (s .turn .array) (t .array) (s .behind .array)
 

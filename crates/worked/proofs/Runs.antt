@@ -36,7 +36,14 @@ pub record Whole (size other : ℕ) (s : Step) : Type 0 where
 left-told : (s : Step) (t : Scene) → left (resultOf s (stateOf t)) (stateOf t) ≡ stateOf (next s t)
 unfolding next
 left-told s t =
-    rw (reply-is s (stateOf t), done-is s (stateOf t), register-is s (stateOf t), goes-on (doneOf (s .turn) (t .device)) (t .array), goes-on (onceOf (s .turn) (t .device)) (t .register))
+    rw (
+      reply-is s (stateOf t),
+      done-is s (stateOf t),
+      register-is s (stateOf t),
+      goes-on (doneOf (s .turn) (t .device))
+          (t .array),
+      goes-on (onceOf (s .turn) (t .device)) (t .register),
+    )
 
 module _ (s : Step) (t : Scene) (has : 0 < t .array .content .size) (holds : 0 < t .register .content .size)
     (whole : Whole (t .array .content .size) (t .register .content .size) s) where
@@ -75,7 +82,8 @@ AllWhole size other [] = Unit
 AllWhole size other (s ∷ ss) = Whole size other s × AllWhole size other ss
 
 pub all-told : (ss : List Step) (t : Scene) → 0 < t .array .content .size → 0 < t .register .content .size
-    → AllWhole (t .array .content .size) (t .register .content .size) ss → map cameOf (results ss (stateOf t)) ≡ allTold ss t
+    → AllWhole (t .array .content .size) (t .register .content .size) ss → map cameOf (results ss (stateOf t))
+    ≡ allTold ss t
 unfolding run.gathered next AllWhole
 all-told [] t has holds whole = refl
 all-told (s ∷ ss) t has holds whole =
@@ -85,6 +93,9 @@ pub end-told : (ss : List Step) (t : Scene) → end ss (stateOf t) ≡ stateOf (
 end-told ss t = sym (end-forgets next series.next stateOf (λ s t. sym (left-told s t)) ss t)
 
 -- what the memories held at first stays
-pub end-content : (ss : List Step) (t : Scene) → (endTold ss t .array .content ≡ t .array .content) × (endTold ss t .register .content ≡ t .register .content)
+pub end-content : (ss : List Step) (t : Scene) → (endTold ss t .array .content ≡ t .array .content)
+    × (endTold ss t .register .content ≡ t .register .content)
 unfolding next
-end-content ss t = kept next (λ (u : Scene). (u .array .content ≡ t .array .content) × (u .register .content ≡ t .register .content)) (λ s u p. p) ss t (refl, refl)
+end-content ss t =
+    kept next (λ (u : Scene). (u .array .content ≡ t .array .content) × (u .register .content ≡ t .register .content))
+    (λ s u p. p) ss t (refl, refl)

@@ -24,7 +24,8 @@ use Rattle.output.specs.Output.{Store, store, storeOf, startOf, byteFrom, lineA
 use Rattle.operations.specs.Bytes.{applied, through}
 use Rattle.operations.proofs.Applied.{applied-joined, applied-each, length-applied}
 use Rattle.worked.specs.Worked.{Piece, Content, blank, painted, contentOf}
-use Rattle.worked.proofs.Computed.{Told, told, more, firstAt, toldStore, apart, inside, one-side, steadyFor, steadyOperations, steadyPiece, steadyPieces, everywhere, agrees}
+use Rattle.worked.proofs.Computed.{Told, told, more, firstAt, toldStore, apart, inside, one-side, steadyFor}
+use Rattle.worked.proofs.Computed.{steadyOperations, steadyPiece, steadyPieces, everywhere, agrees}
 use Rattle.worked.proofs.Halves.{at-each}
 
 -- the memory
@@ -44,7 +45,8 @@ length-content c = length-each (painted (c .pieces)) (blank (c .size) (c .holds)
 
 getD-content : (c : Content) (k : ℕ) → k < c .size → getD (contentOf c) k 0 ≡ firstAt c k
 getD-content c k l =
-    getD-each (painted (c .pieces)) (blank (c .size) (c .holds)) k 0 (omega (arith, length-blank (c .size) (c .holds))) ∙
+    getD-each (painted (c .pieces)) (blank (c .size) (c .holds)) k 0 (omega (arith, length-blank (c .size) (c .holds)))
+    ∙
     ap (painted (c .pieces) k) (getD-blank (c .size) (c .holds) k l)
 
 pub begins-content : (c : Content) → contentOf c ≡ memoryOf (told c)
@@ -55,7 +57,8 @@ pub length-told : (t : Told) → length (memoryOf t) ≡ t .content .size
 unfolding memoryOf
 length-told t = length-applied (t .done) (contentOf (t .content)) ∙ length-content (t .content)
 
-getD-told : (t : Told) (k : ℕ) → k < t .content .size → getD (memoryOf t) k 0 ≡ through (t .done) k (firstAt (t .content) k)
+getD-told : (t : Told) (k : ℕ) → k < t .content .size → getD (memoryOf t) k 0
+    ≡ through (t .done) k (firstAt (t .content) k)
 unfolding memoryOf
 getD-told t k l =
     ap (λ (xs : List ℕ). getD xs k 0) (applied-each (t .done) (contentOf (t .content))) ∙
@@ -68,7 +71,8 @@ goes-on os t = sym (applied-joined (t .done) os (contentOf (t .content)))
 
 -- A read of the memory is a read of the store that is computed.
 module _ (array register : Told) (has : 0 < array .content .size) (holds : 0 < register .content .size) where
-  fetched : (t : Told) → 0 < t .content .size → (start i : ℕ) → byteFrom (store (memoryOf t)) start i ≡ byteFrom (toldStore t) start i
+  fetched : (t : Told) → 0 < t .content .size → (start i : ℕ) → byteFrom (store (memoryOf t)) start i
+      ≡ byteFrom (toldStore t) start i
   fetched t p start i = rw (length-told t) (getD-told t ((start + i) % t .content .size) (mod-lt (start + i) p))
 
   from-source : (source : Source) (d : Device) (wp : Bool) (start i : ℕ)
@@ -141,17 +145,22 @@ module _ (low n k : ℕ) (p : low ≤ k) (q : k < low + n) where
 
   -- what a piece makes of a byte at a place
   steady-piece : (step from to value x y : ℕ) → steadyPiece step from to low n ≡ true → x ≡ y
-      → cond (range from to k) ((value + step * (k - from)) % 256) x ≡ cond (range from to low) ((value + step * (low - from)) % 256) y
+      → cond (range from to k) ((value + step * (k - from)) % 256) x
+      ≡ cond (range from to low) ((value + step * (low - from)) % 256) y
   unfolding steadyPiece
-  steady-piece zero from to value x y e same = rw (zero-mul (k - from), zero-mul (low - from), same-side from to e, same)
+  steady-piece zero from to value x y e same =
+      rw (zero-mul (k - from), zero-mul (low - from), same-side from to e, same)
   steady-piece (suc step) from to value x y e same = rw (left-out from to e .0, left-out from to e .1) same
 
-  steady-painted : (ps : List Piece) (x y : ℕ) → steadyPieces ps low n ≡ true → x ≡ y → painted ps k x ≡ painted ps low y
+  steady-painted : (ps : List Piece) (x y : ℕ) → steadyPieces ps low n ≡ true → x ≡ y → painted ps k x
+      ≡ painted ps low y
   unfolding painted steadyPieces
   steady-painted [] x y e same = same
   steady-painted (piece ∷ ps) x y e same =
-      let w = and-eq-true-iff (steadyPiece (piece .step) (piece .from) (piece .to) low n) (steadyPieces ps low n) .0 e in
-      steady-piece (piece .step) (piece .from) (piece .to) (piece .value) (painted ps k x) (painted ps low y) (w .0) (steady-painted ps x y (w .1) same)
+      let w =
+      and-eq-true-iff (steadyPiece (piece .step) (piece .from) (piece .to) low n) (steadyPieces ps low n) .0 e in
+      steady-piece (piece .step) (piece .from) (piece .to) (piece .value) (painted ps k x) (painted ps low y) (w .0)
+      (steady-painted ps x y (w .1) same)
 
 pub painted-told : (t : Told) (ps : List Piece) → t .content .size ≤ 262144 → agrees (t .done) ps (t .content) ≡ true
     → memoryOf t ≡ each (painted ps) (contentOf (t .content))
@@ -161,7 +170,9 @@ painted-told t ps fits e =
     each-alike (through (t .done)) (painted ps) (contentOf (t .content))
     (λ k l.
     let m : k < t .content .size = omega (arith, length-content (t .content)) in
-    rw (getD-content (t .content) k m) (eqb-true (through (t .done) k (first k)) (painted ps k (first k)) (at-each test steady sound 18 0 k e (omega arith) (omega arith))))
+    rw (getD-content (t .content) k m)
+    (eqb-true (through (t .done) k (first k)) (painted ps k (first k))
+    (at-each test steady sound 18 0 k e (omega arith) (omega arith))))
   where
     first : ℕ → ℕ
     first k = firstAt (t .content) k
@@ -170,13 +181,17 @@ painted-told t ps fits e =
     test k = eqb (through (t .done) k (first k)) (painted ps k (first k))
 
     steady : ℕ → ℕ → Bool
-    steady low n = steadyOperations (t .done) low n && (steadyPieces ps low n && steadyPieces (t .content .pieces) low n)
+    steady low n =
+        steadyOperations (t .done) low n && (steadyPieces ps low n && steadyPieces (t .content .pieces) low n)
 
     sound : (low n k : ℕ) → steady low n ≡ true → low ≤ k → k < low + n → test k ≡ test low
     sound low n k s p q =
-        let w = and-eq-true-iff (steadyOperations (t .done) low n) (steadyPieces ps low n && steadyPieces (t .content .pieces) low n) .0 s in
+        let w =
+        and-eq-true-iff (steadyOperations (t .done) low n)
+        (steadyPieces ps low n && steadyPieces (t .content .pieces) low n) .0 s in
         let both = and-eq-true-iff (steadyPieces ps low n) (steadyPieces (t .content .pieces) low n) .0 (w .1) in
-        let same : first k ≡ first low = steady-painted low n k p q (t .content .pieces) (t .content .holds) (t .content .holds) (both .1) refl in
+        let same : first k ≡ first low =
+        steady-painted low n k p q (t .content .pieces) (t .content .holds) (t .content .holds) (both .1) refl in
         rw (
           steady-through low n k p q (t .done) (first k) (w .0),
           steady-painted low n k p q ps (first k) (first low) (both .0) same,

@@ -19,15 +19,21 @@ use Rattle.output.specs.Output.{readAt}
 use Rattle.part.specs.Frame.{judgedOf, numberFor, replied}
 use Rattle.series.specs.Series.{State, results, end}
 use Rattle.operations.specs.Bytes.{through}
-use Rattle.worked.specs.Worked.{Exchange, Came, Row, Worked, EachWorked, Piece, Content, canary, stepOf, stepsOf, startOf, cameOf, painted, contentOf}
+use Rattle.worked.specs.Worked.{Exchange, Came, Row, Worked, EachWorked, Piece, Content, canary, stepOf, stepsOf}
+use Rattle.worked.specs.Worked.{startOf, cameOf, painted, contentOf}
 use Rattle.worked.specs.Table.{table}
 use Rattle.worked.specs.Further.{further}
 use Rattle.worked.specs.Polls.{polls}
 use Rattle.worked.specs.Words.{unmoved, aborting, rousing, counting, bytes}
 use Rattle.worked.specs.Flags.{flags}
+use Rattle.worked.specs.Modes.{modes}
 use Rattle.worked.specs.Data.{data-rows}
+use Rattle.worked.specs.Reads.{read-rows}
 use Rattle.worked.specs.Refused.{refused-rows}
-use Rattle.worked.proofs.Computed.{Told, sceneOf, repliesOf, wantedOf, fittingIn, fitting, allFitting, everywhere, halved, agrees, steadyOperations, steadyPiece, steadyPieces, steadyFor, one-side, apart, inside, cameTold, next, endTold}
+use Rattle.worked.specs.Rows.{Rows}
+use Rattle.worked.proofs.Computed.{Told, sceneOf, repliesOf, wantedOf, fittingIn, fitting, allFitting}
+use Rattle.worked.proofs.Computed.{everywhere, halved, agrees, steadyOperations, steadyPiece, steadyPieces}
+use Rattle.worked.proofs.Computed.{steadyFor, one-side, apart, inside, cameTold, next, endTold}
 use Rattle.worked.proofs.Told.{memoryOf, begins-content, painted-told}
 use Rattle.worked.proofs.Runs.{AllWhole, stateOf, all-told, end-told, end-content}
 
@@ -39,8 +45,10 @@ row-whole : (r : Row) (es : List Exchange)
     → AllWhole (r .array .size) (r .register .size) (map (stepOf (r .settings) (r .array .size) (r .register .size)) es)
 unfolding AllWhole
 row-whole r [] = tt
-row-whole r (e ∷ es) =
-    (record { array = refl; register = refl; output = sym (length-replicate {A = ℕ} (e .sent .room) canary) }, row-whole r es)
+row-whole r (e ∷ es) = (
+  record { array = refl; register = refl; output = sym (length-replicate {A = ℕ} (e .sent .room) canary) },
+  row-whole r es,
+)
 
 -- what fits has a place, and at the end of a series it is as the pieces say
 module _ (t : Told) (c : Content) (ps : List Piece) (f : fittingIn c (t .done) ps ≡ true) where
@@ -54,7 +62,8 @@ module _ (t : Told) (c : Content) (ps : List Piece) (f : fittingIn c (t .done) p
   as-painted : t .content ≡ c → memoryOf t ≡ each (painted ps) (contentOf c)
   as-painted e =
       let w = and-eq-true-iff (leb (c .size) 262144) (agrees (t .done) ps c) .0 (sized .1) in
-      painted-told t ps (rw e (leb-true (c .size) 262144 (w .0))) (rw e (w .1)) ∙ ap (λ (d : Content). each (painted ps) (contentOf d)) e
+      painted-told t ps (rw e (leb-true (c .size) 262144 (w .0))) (rw e (w .1)) ∙
+      ap (λ (d : Content). each (painted ps) (contentOf d)) e
 
 row-holds : (r : Row) → repliesOf r ≡ wantedOf r → fitting r ≡ true → Worked r
 unfolding repliesOf wantedOf fitting
@@ -68,7 +77,9 @@ row-holds r e f =
     let holds = has-a-place (final .register) (r .register) (r .registerAfter) (both .1) in
     let ended : end (stepsOf r) (startOf r) ≡ stateOf final = ap (end (stepsOf r)) (start-told r) ∙ end-told (stepsOf r) scene in
     record {
-      replies = ap (λ (t : State). map cameOf (results (stepsOf r) t)) (start-told r) ∙ (all-told (stepsOf r) scene has holds (row-whole r (r .exchanges)) ∙ e);
+      replies =
+          ap (λ (t : State). map cameOf (results (stepsOf r) t)) (start-told r) ∙
+          (all-told (stepsOf r) scene has holds (row-whole r (r .exchanges)) ∙ e);
       array =
           ap (λ (t : State). t .array) ended ∙
           as-painted (final .array) (r .array) (r .arrayAfter) (both .0) (end-content (stepsOf r) scene .0);
@@ -84,38 +95,19 @@ each-holds (r ∷ rs) e f =
     let w : (fitting r ≡ true) × (allFitting rs ≡ true) = and-eq-true-iff (fitting r) (allFitting rs) .0 f in
     (row-holds r (ap (λ (l : List (List Came)). getD l 0 []) e) (w .0), each-holds rs (ap tail e) (w .1))
 
--- the table: P1 to P10, the session and the limits, each reply, record and byte as the row says
-pub worked-table : EachWorked table
-unfolding table repliesOf wantedOf fittingIn fitting allFitting agrees everywhere halved steadyOperations steadyPiece steadyPieces steadyFor one-side apart inside through painted run.end run.gathered cameTold next
-    replied numberFor refusalOf anyUnfair judgedOf judged byOpcode rowOf rows lookup readAt each eachFrom over covered last
-worked-table = each-holds table refl refl
-
--- and the rows beyond it
-pub worked-further : EachWorked further
-unfolding further repliesOf wantedOf fittingIn fitting allFitting agrees everywhere halved steadyOperations steadyPiece steadyPieces steadyFor one-side apart inside through painted run.end run.gathered cameTold next
-    replied numberFor refusalOf anyUnfair judgedOf judged byOpcode rowOf rows lookup readAt each eachFrom over covered last
-worked-further = each-holds further refl refl
-
--- and those of frames that take time
-pub worked-polls : EachWorked polls
-unfolding polls repliesOf wantedOf fittingIn fitting allFitting agrees everywhere halved steadyOperations steadyPiece steadyPieces steadyFor one-side apart inside through painted run.end run.gathered cameTold next
-    replied numberFor refusalOf anyUnfair judgedOf judged byOpcode rowOf rows lookup readAt each eachFrom over covered last
-worked-polls = each-holds polls refl refl
-
--- and those of the flags
-pub worked-flags : EachWorked flags
-unfolding flags unmoved rousing counting repliesOf wantedOf fittingIn fitting allFitting agrees everywhere halved steadyOperations steadyPiece steadyPieces steadyFor one-side apart inside through painted run.end run.gathered cameTold next
-    replied numberFor refusalOf anyUnfair judgedOf judged byOpcode rowOf rows lookup readAt each eachFrom over covered last
-worked-flags = each-holds flags refl refl
-
--- and those of array and register
-pub worked-data : EachWorked data-rows
-unfolding data-rows unmoved aborting counting bytes repliesOf wantedOf fittingIn fitting allFitting agrees everywhere halved steadyOperations steadyPiece steadyPieces steadyFor one-side apart inside through painted run.end run.gathered cameTold next
-    replied numberFor refusalOf anyUnfair judgedOf judged byOpcode rowOf rows lookup readAt each eachFrom over covered last
-worked-data = each-holds data-rows refl refl
-
--- and those of the refusals
-pub worked-refused : EachWorked refused-rows
-unfolding refused-rows repliesOf wantedOf fittingIn fitting allFitting agrees everywhere halved steadyOperations steadyPiece steadyPieces steadyFor one-side apart inside through painted run.end run.gathered cameTold next
-    replied numberFor refusalOf anyUnfair judgedOf judged byOpcode rowOf rows lookup readAt each eachFrom over covered last
-worked-refused = each-holds refused-rows refl refl
+pub all-rows : Rows
+unfolding table further polls flags modes data-rows read-rows refused-rows unmoved rousing aborting counting bytes
+    repliesOf wantedOf fittingIn fitting allFitting agrees everywhere halved steadyOperations steadyPiece steadyPieces
+    steadyFor one-side apart inside through painted run.end run.gathered cameTold next replied numberFor refusalOf
+    anyUnfair judgedOf judged byOpcode rowOf rows lookup readAt each eachFrom over covered last
+all-rows =
+    record {
+      worked-table = each-holds table refl refl;
+      worked-further = each-holds further refl refl;
+      worked-polls = each-holds polls refl refl;
+      worked-flags = each-holds flags refl refl;
+      worked-modes = each-holds modes refl refl;
+      worked-data = each-holds data-rows refl refl;
+      worked-reads = each-holds read-rows refl refl;
+      worked-refused = each-holds refused-rows refl refl;
+    }

@@ -5,7 +5,10 @@ pub mod Table
 pub mod Further
 pub mod Polls
 pub mod Flags
+pub mod Modes
 pub mod Data
+pub mod Reads
 pub mod Refused
+pub mod Rows
 pub mod Example
 pub mod Looks

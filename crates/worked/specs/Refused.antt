@@ -3,7 +3,7 @@
 use Prim.Native.Nat.{ℕ}
 use mathlib.Core.Bool.{true, false}
 use mathlib.Core.List.{List, [], _∷_}
-use lib.ListN.{replicate}
+use lib.ListN.{replicate, set}
 use Rattle.device.specs.declared.Device.{Device}
 use Rattle.device.specs.declared.Mode.{Mode}
 use Rattle.device.specs.declared.Mode.the-variants.{Awake, Deep, UltraDeep}
@@ -82,8 +82,11 @@ record-first =
     (row (busy 60000001) 0x00 ((erase ⇒ refused 6 (busy 60000001) 1) ∷ []) [])
 
 -- 7: a duration of 0, or of one tick too many, at each of the eight places
-abbrev unfair : List ℕ → Row
-unfair ticks = lasting ticks (row enabled 0x00 ((erase ⇒ refused 7 enabled 1) ∷ []) [])
+abbrev usual : List ℕ
+usual = 12 ∷ 2000 ∷ 7000 ∷ 50000 ∷ 400000 ∷ 1600000 ∷ 400 ∷ 20000 ∷ []
+
+abbrev unfair : ℕ → ℕ → Row
+unfair place ticks = lasting (set usual place ticks) (row enabled 0x00 ((erase ⇒ refused 7 enabled 1) ∷ []) [])
 
 -- Each number with every fault of a higher number beside it, on a record whose flags are all 1: none of them moves, and
 -- no tick is counted.
@@ -95,12 +98,6 @@ faulty number array register ticks d sent room =
     lasting ticks
     (sized array
     (registered register [] [] (row d 0x00 ((given room (paced 1001 sent) ⇒ spared number d room) ∷ []) [])))
-
-abbrev zero-last : List ℕ
-zero-last = 12 ∷ 2000 ∷ 7000 ∷ 50000 ∷ 400000 ∷ 1600000 ∷ 400 ∷ 0 ∷ []
-
-abbrev usual : List ℕ
-usual = 12 ∷ 2000 ∷ 7000 ∷ 50000 ∷ 400000 ∷ 1600000 ∷ 400 ∷ 20000 ∷ []
 
 -- one tick is enough at each
 abbrev shortest : Row
@@ -130,28 +127,28 @@ refused-rows =
     asleep-and Deep ∷
     asleep-and UltraDeep ∷
     record-first ∷
-    unfair (0 ∷ 2000 ∷ 7000 ∷ 50000 ∷ 400000 ∷ 1600000 ∷ 400 ∷ 20000 ∷ []) ∷
-    unfair (12 ∷ 0 ∷ 7000 ∷ 50000 ∷ 400000 ∷ 1600000 ∷ 400 ∷ 20000 ∷ []) ∷
-    unfair (12 ∷ 2000 ∷ 0 ∷ 50000 ∷ 400000 ∷ 1600000 ∷ 400 ∷ 20000 ∷ []) ∷
-    unfair (12 ∷ 2000 ∷ 7000 ∷ 0 ∷ 400000 ∷ 1600000 ∷ 400 ∷ 20000 ∷ []) ∷
-    unfair (12 ∷ 2000 ∷ 7000 ∷ 50000 ∷ 0 ∷ 1600000 ∷ 400 ∷ 20000 ∷ []) ∷
-    unfair (12 ∷ 2000 ∷ 7000 ∷ 50000 ∷ 400000 ∷ 0 ∷ 400 ∷ 20000 ∷ []) ∷
-    unfair (12 ∷ 2000 ∷ 7000 ∷ 50000 ∷ 400000 ∷ 1600000 ∷ 0 ∷ 20000 ∷ []) ∷
-    unfair (12 ∷ 2000 ∷ 7000 ∷ 50000 ∷ 400000 ∷ 1600000 ∷ 400 ∷ 0 ∷ []) ∷
-    unfair (60000001 ∷ 2000 ∷ 7000 ∷ 50000 ∷ 400000 ∷ 1600000 ∷ 400 ∷ 20000 ∷ []) ∷
-    unfair (12 ∷ 60000001 ∷ 7000 ∷ 50000 ∷ 400000 ∷ 1600000 ∷ 400 ∷ 20000 ∷ []) ∷
-    unfair (12 ∷ 2000 ∷ 60000001 ∷ 50000 ∷ 400000 ∷ 1600000 ∷ 400 ∷ 20000 ∷ []) ∷
-    unfair (12 ∷ 2000 ∷ 7000 ∷ 60000001 ∷ 400000 ∷ 1600000 ∷ 400 ∷ 20000 ∷ []) ∷
-    unfair (12 ∷ 2000 ∷ 7000 ∷ 50000 ∷ 60000001 ∷ 1600000 ∷ 400 ∷ 20000 ∷ []) ∷
-    unfair (12 ∷ 2000 ∷ 7000 ∷ 50000 ∷ 400000 ∷ 60000001 ∷ 400 ∷ 20000 ∷ []) ∷
-    unfair (12 ∷ 2000 ∷ 7000 ∷ 50000 ∷ 400000 ∷ 1600000 ∷ 60000001 ∷ 20000 ∷ []) ∷
+    unfair 0 0 ∷
+    unfair 1 0 ∷
+    unfair 2 0 ∷
+    unfair 3 0 ∷
+    unfair 4 0 ∷
+    unfair 5 0 ∷
+    unfair 6 0 ∷
+    unfair 7 0 ∷
+    unfair 0 60000001 ∷
+    unfair 1 60000001 ∷
+    unfair 2 60000001 ∷
+    unfair 3 60000001 ∷
+    unfair 4 60000001 ∷
+    unfair 5 60000001 ∷
+    unfair 6 60000001 ∷
     shortest ∷
-    faulty 1 65537 127 zero-last (full Awake 60000001) (clocked 8 (many 8192) 5) 0 ∷
-    faulty 2 65536 127 zero-last (full UltraDeep 8) (clocked 8 (many 8192) 5) 0 ∷
-    faulty 3 131072 128 zero-last (full Deep 8) (clocked 8 (many 8192) 5) 0 ∷
-    faulty 4 65536 128 zero-last (full UltraDeep 8) (clocked 9 (0x60 ∷ []) 5) 0 ∷
-    faulty 5 131072 128 zero-last (full UltraDeep 8) erase 0 ∷
-    faulty 6 65536 128 zero-last (full UltraDeep 8) erase 1 ∷
-    faulty 7 131072 128 zero-last (full Awake 8) erase 1 ∷
+    faulty 1 65537 127 (set usual 7 0) (full Awake 60000001) (clocked 8 (many 8192) 5) 0 ∷
+    faulty 2 65536 127 (set usual 7 0) (full UltraDeep 8) (clocked 8 (many 8192) 5) 0 ∷
+    faulty 3 131072 128 (set usual 7 0) (full Deep 8) (clocked 8 (many 8192) 5) 0 ∷
+    faulty 4 65536 128 (set usual 7 0) (full UltraDeep 8) (clocked 9 (0x60 ∷ []) 5) 0 ∷
+    faulty 5 131072 128 (set usual 7 0) (full UltraDeep 8) erase 0 ∷
+    faulty 6 65536 128 (set usual 7 0) (full UltraDeep 8) erase 1 ∷
+    faulty 7 131072 128 (set usual 7 0) (full Awake 8) erase 1 ∷
     faulty 8 65536 128 usual (full Awake 8) erase 1 ∷
     []

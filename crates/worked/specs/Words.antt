@@ -32,6 +32,10 @@ enabled = stands false false true 0
 abbrev pub busy : ℕ → Device
 busy ticks = stands false false false ticks
 
+-- BPL 1 and BP0 0, the OTP-used mark and RSTE 1, and the busy ticks
+abbrev pub worn : ℕ → Device
+worn ticks = held true false false true true Awake ticks
+
 -- so many bytes, each one more than the one before it, modulo 256
 unfoldable pub counting : ℕ → ℕ → List ℕ
 counting first zero = []
@@ -74,6 +78,10 @@ replies number outcome first driven covered d output =
           record { refusal = number; outcome = outcome; first = first; driven = driven; covered = covered; device = d };
       output = output;
     }
+
+-- while opcode and address are clocked nothing is driven
+abbrev pub header : List ℕ
+header = 0xFF ∷ 0xFF ∷ 0xFF ∷ 0xFF ∷ []
 
 -- from an accepted call that covers nothing; the byte after the frame's last is not written
 abbrev pub came : String → ℕ → ℕ → Device → List ℕ → Came

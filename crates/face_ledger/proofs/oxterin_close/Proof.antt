@@ -1,4 +1,5 @@
--- `face_ledger::oxterin_close` meets its contract: words that stand for a running operation are told, others change nothing.
+-- `face_ledger::oxterin_close` meets its contract: words that stand for a running operation are told, others change
+-- nothing.
 -- Assumes nothing.
 use mathlib.Core.Path.{sym, _∙_}
 use borrow.Author.Needs.{needs}

@@ -4,7 +4,12 @@ use Rattle.judge.proofs.asleep.Statement.{statement}
 use Rattle.judge.proofs.asleep.Tie as tie
 
 returns : tie.Need-returns
-returns c = rw (rw (c .before .before .before .before .on-boundary .ensures) at (c .before .before .if1 .taken), c .quiet .ensures, c .before .moved .ensures)
+returns c =
+    rw (
+      rw (c .before .before .before .before .on-boundary .ensures) at (c .before .before .if1 .taken),
+      c .quiet .ensures,
+      c .before .moved .ensures,
+    )
 
 returns-2 : tie.Need-returns-2
 returns-2 c = rw (rw (c .before .before .before .on-boundary .ensures) at (c .before .if1 .left), c .quiet2 .ensures)

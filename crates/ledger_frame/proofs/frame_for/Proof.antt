@@ -20,7 +20,8 @@ returns : tie.Need-returns
 returns c =
     let tested = c .before .before .before .before in
     let a = tested .before .before .before .before .before .before .before .before in
-    shut-frame (callAt a) (lentAt a) (a .args .account) (ledgerAt a) _ (sym (tested .before .is-shut .ensures) ∙ tested .if1 .taken) (c .turned-away .ensures)
+    shut-frame (callAt a) (lentAt a) (a .args .account) (ledgerAt a) _ (sym (tested .before .is-shut .ensures) ∙
+    tested .if1 .taken) (c .turned-away .ensures)
 
 book-requires : tie.Need-book-requires
 book-requires c κs =

@@ -22,7 +22,11 @@ returns c =
     let told = c .before .before .enum-told .given .1 in
     let a = c .before .before .before .before .before .before .args in (
       rw (told, c .view .ensures .0, c .before .is-array .ensures),
-      (rw (told, c .view .ensures .0, c .before .is-array .ensures) (length-looked (isArray (length (a .array .now))) (a .array .now) (a .address) (a .count)), rw (told, c .view .ensures .1, c .before .is-array .ensures)),
+      (
+        rw (told, c .view .ensures .0, c .before .is-array .ensures)
+            (length-looked (isArray (length (a .array .now))) (a .array .now) (a .address) (a .count)),
+        rw (told, c .view .ensures .1, c .before .is-array .ensures),
+      ),
     )
 
 returns-2 : tie.Need-returns-2
@@ -30,7 +34,11 @@ returns-2 c =
     let told = c .before .before .enum-told2 .given .1 in
     let a = c .before .before .before .before .before .before .args in (
       rw (told, c .view2 .ensures .0, c .before .is-register .ensures),
-      (rw (told, c .view2 .ensures .0, c .before .is-register .ensures) (length-looked (isRegister (length (a .register .now))) (a .register .now) (a .address) (a .count)), rw (told, c .view2 .ensures .1, c .before .is-register .ensures)),
+      (
+        rw (told, c .view2 .ensures .0, c .before .is-register .ensures)
+            (length-looked (isRegister (length (a .register .now))) (a .register .now) (a .address) (a .count)),
+        rw (told, c .view2 .ensures .1, c .before .is-register .ensures),
+      ),
     )
 
 pub look-spec : {M : Type 1} → statement M

@@ -15,7 +15,8 @@ abbrev lentAt : tie.Start → Lent
 lentAt a = lent (a .args .array .now) (a .args .register .now) (a .args .output .now)
 
 -- the number that is tested is the call's
-number : (c : tie.After-number) → let a = c .before .before .before .before .before .before in c .number .result ≡ numberFor (callAt a) (lengthsOf (callAt a) (lentAt a))
+number : (c : tie.After-number) → let a = c .before .before .before .before .before .before in c .number .result
+    ≡ numberFor (callAt a) (lengthsOf (callAt a) (lentAt a))
 unfolding numberFor
 number c = c .number .ensures ∙ ap numberOf (c .before .refusal-of .ensures)
 
@@ -29,4 +30,6 @@ returns-2 c =
 
 pub turned-away-spec : {M : Type 1} → statement M
 turned-away-spec =
-    tie.close (tie.spec (λ c κs. search needs) (λ c κs. search needs) (λ c κs. search needs) returns (λ c κs. search needs) returns-2)
+    tie.close
+    (tie.spec (λ c κs. search needs) (λ c κs. search needs) (λ c κs. search needs) returns
+    (λ c κs. search needs) returns-2)
