@@ -1,8 +1,8 @@
--- A frame begins an operation on the array exactly when its opcode is a program or an erase, complete, on a boundary, write-enabled,
--- and the part is awake, idle and unprotected. Assumes nothing.
-use mathlib.Core.Bool.{Bool, true, false, false≢true, cond, not, _&&_, _||_, and-true, and-false, and-eq-true-iff}
-use mathlib.Core.Path.{_≡_, refl, sym, _∙_}
-use lib.Dec.{leb, ltb, eqb}
+-- A frame begins an operation on the array exactly when its opcode is a program or an erase and no cause keeps it from
+-- it, which is exactly when all of `ready` holds. Assumes nothing.
+use mathlib.Core.Bool.{Bool, true, false, true≢false, cond, not, _&&_, and-true, and-false, and-eq-true-iff}
+use mathlib.Core.Path.{_≡_, refl, sym, ap, _∙_}
+use lib.Dec.{ltb}
 use Rattle.opcodes.specs.declared.Row.{Row}
 use Rattle.opcodes.specs.declared.Command.{Command}
 use Rattle.opcodes.specs.declared.Command.the-variants.{Unlisted, Reads, Orders, Works}
@@ -10,121 +10,171 @@ use Rattle.opcodes.specs.declared.Order.{Order}
 use Rattle.opcodes.specs.declared.Order.the-variants.{Enable, Disable, DeepPowerDown, UltraDeepPowerDown, Resume, Reset}
 use Rattle.opcodes.specs.declared.Work.{Work}
 use Rattle.opcodes.specs.Rows.{rowOf}
-use Rattle.opcodes.specs.Rule.{ruleOf, rule}
-use Rattle.opcodes.proofs.Table.{rule-kept}
+use Rattle.opcodes.specs.Kinds.{meansArray, worksOnArray}
+use Rattle.opcodes.proofs.Kept.{work-needs}
 use Rattle.device.specs.declared.Device.{Device}
 use Rattle.device.specs.declared.Mode.{Mode}
 use Rattle.device.specs.declared.Mode.the-variants.{Awake, Deep, UltraDeep}
+use Rattle.device.specs.Device.{awake, deep, ultraDeep, woken}
 use Rattle.settings.specs.declared.Settings.{Settings}
 use Rattle.judge.specs.declared.Facts.{Facts}
 use Rattle.judge.specs.declared.Judged.{Judged}
-use Rattle.judge.specs.Begins.{changesArray, worksOnArray, meansArray, readyByOpcode, ready}
-use Rattle.device.specs.Device.{awake, deep, ultraDeep, moved, woken, reset}
-use Rattle.judge.specs.Judging.{nothing, control, aborted, onBoundary, complete, ordered, carried, worked, obeyed, byOpcode, asleep, judged}
+use Rattle.judge.specs.declared.Cause.{Cause}
+use Rattle.judge.specs.declared.Cause.the-variants.{None, TooFewBits, Asleep, Busy, LatchClear, OffBoundary}
+use Rattle.judge.specs.declared.Cause.the-variants.{Incomplete, Protected}
+use Rattle.judge.specs.Begins.{changesArray, ready}
+use Rattle.judge.specs.Causes.{isNone, onBoundary, causeOf, drops}
+use Rattle.judge.specs.Judging.{nothing, control, aborted, ordered, carried, obeyed, ended, wakes, judged}
+use Rattle.judge.proofs.Causes.{up}
 
 abbrev changes : Judged → Bool
 changes j = changesArray (j .action)
 
--- `readyByOpcode` of a row whose command is known
-abbrev readyFor : Command → Row → Device → Facts → Bool
-readyFor c r d f = meansArray c && (leb (r .bytes) (f .bytes) && (onBoundary f && (d .wel && not (d .bp0))))
+order-quiet : (order : Order) (d : Device) → changes (ordered order d) ≡ false
+order-quiet Enable d = refl
+order-quiet Disable d = refl
+order-quiet DeepPowerDown d = refl
+order-quiet UltraDeepPowerDown d = refl
+order-quiet Resume d = refl
+order-quiet Reset d = refl
 
--- where neither way changes the array, a choice between them does not
-either : (b : Bool) (x y : Judged) → changes x ≡ false → changes y ≡ false → changes (cond b x y) ≡ false
-either true x y p q = p
-either false x y p q = q
+work-when : (work : Work) (d : Device) (s : Settings) (f : Facts) → changes (carried work d s f) ≡ worksOnArray work
+work-when Work.Program d s f = refl
+work-when (Work.Erase region) d s f = refl
+work-when Work.Otp d s f = refl
+work-when Work.WriteStatus d s f = refl
+work-when Work.WriteStatusTwo d s f = refl
 
-ordered-quiet : (o : Order) (d : Device) (f : Facts) → changes (ordered o d f) ≡ false
-ordered-quiet Enable d f = refl
-ordered-quiet Disable d f = refl
-ordered-quiet DeepPowerDown d f = refl
-ordered-quiet UltraDeepPowerDown d f = refl
-ordered-quiet Resume d f = refl
-ordered-quiet Reset d f = either (d .rste && eqb (f .second) 0xD0) (control (reset d)) (nothing d) refl refl
+module _ (d : Device) (s : Settings) (f : Facts) where
+  abbrev row : Row
+  row = rowOf (f .code)
 
--- a choice between a way that does not change the array and one that may
-gate : (b w : Bool) (x y : Judged) → changes x ≡ false → changes y ≡ w → changes (cond b x y) ≡ (w && not b)
-gate true w x y p q = p ∙ sym (and-false w)
-gate false w x y p q = q ∙ sym (and-true w)
+  obeyed-when : (command : Command) → changes (obeyed command row d s f) ≡ meansArray command
+  obeyed-when Unlisted = refl
+  obeyed-when (Reads source) = refl
+  obeyed-when (Orders order) = order-quiet order d
+  obeyed-when (Works work) = work-when work d s f
 
--- carried out or aborted: it works on the array unless the array is protected
-worked-when : (w : Work) (d : Device) (s : Settings) (f : Facts) → changes (worked w d s f) ≡ (worksOnArray w && not (d .bp0))
-worked-when Work.Program d s f = gate (d .bp0) true (aborted d) (carried Work.Program d s f) refl refl
-worked-when (Work.Erase region) d s f = gate (d .bp0) true (aborted d) (carried (Work.Erase region) d s f) refl refl
-worked-when Work.Otp d s f = either (d .used) (aborted d) (carried Work.Otp d s f) refl refl
-worked-when Work.WriteStatus d s f = either (d .bpl && not (f .wp)) (aborted d) (carried Work.WriteStatus d s f) refl refl
-worked-when Work.WriteStatusTwo d s f = refl
-
--- with the latch and the boundary that its row asks for
-latched-when : (w : Work) (d : Device) (s : Settings) (f : Facts) (wel enough even : Bool)
-    → changes (cond (not wel) (nothing d) (cond (enough && (even || false)) (worked w d s f) (aborted d)))
-    ≡ (worksOnArray w && (enough && (even && (wel && not (d .bp0)))))
-latched-when w d s f true true true = worked-when w d s f
-latched-when w d s f true true false = sym (and-false (worksOnArray w))
-latched-when w d s f true false even = sym (and-false (worksOnArray w))
-latched-when w d s f false true true = sym (and-false (worksOnArray w))
-latched-when w d s f false true false = sym (and-false (worksOnArray w))
-latched-when w d s f false false even = sym (and-false (worksOnArray w))
-
-module _ (r : Row) (d : Device) (s : Settings) (f : Facts) where
-  -- a command that leaves the array alone, whatever becomes of it
-  quiet-way : changes (obeyed (r .command) r d s f) ≡ false → changes (byOpcode r d s f) ≡ false
-  unfolding byOpcode
-  quiet-way h =
-      either (r .latch && not (d .wel)) (nothing d) (cond (complete r f) (obeyed (r .command) r d s f) (cond (r .latch) (aborted d) (nothing d))) refl
-      (either (complete r f) (obeyed (r .command) r d s f) (cond (r .latch) (aborted d) (nothing d)) h
-      (either (r .latch) (aborted d) (nothing d) refl refl))
-
-  -- what the table's rule says of a row that works
-  works : (w : Work) → ruleOf (Works w) r ≡ true → (r .boundary ≡ true) × (r .latch ≡ true) × (not (r .busy) ≡ true)
-  works w k =
-      let heeded = and-eq-true-iff (r .boundary && r .latch) (not (r .busy)) .0 (and-eq-true-iff (r .boundary && r .latch && not (r .busy)) (eqb (r .most) 0) .0 k .0) in
-      let needed = and-eq-true-iff (r .boundary) (r .latch) .0 (heeded .0) in
-      (needed .0, needed .1, heeded .1)
-
-  opcode-when : (c : Command) → r .command ≡ c → ruleOf c r ≡ true → changes (byOpcode r d s f) ≡ readyFor c r d f
-  unfolding byOpcode
-  opcode-when Unlisted e k = quiet-way (rw e)
-  opcode-when (Reads source) e k = quiet-way (rw e)
-  opcode-when (Orders order) e k = quiet-way (rw e (ordered-quiet order d f))
-  opcode-when (Works work) e k =
-      rw (e, works work k .1, works work k .0) (latched-when work d s f (d .wel) (leb (r .bytes) (f .bytes)) (onBoundary f))
-
-  -- what a busy part answers leaves the array alone
-  answered : (c : Command) → ruleOf c r ≡ true → r .busy ≡ true → readyFor c r d f ≡ false
-  answered Unlisted k b = refl
-  answered (Reads source) k b = refl
-  answered (Orders order) k b = refl
-  answered (Works work) k b = absurd (false≢true (rw b at (works work k .2)))
-
-  -- an awake part, by whether the frame is short and the part busy
-  heard-when : (short busy : Bool) → rule r ≡ true
-      → changes (cond short (nothing d) (cond (busy && not (r .busy)) (nothing d) (byOpcode r d s f)))
-      ≡ (not busy && (not short && readyByOpcode r d f))
-  heard-when true busy k = sym (and-false (not busy))
-  heard-when false false k = opcode-when (r .command) refl k
-  heard-when false true k = by (r .busy) refl
+  -- by the cause
+  ended-when : (cause : Cause) → changes (ended cause row d s f) ≡ (isNone cause && meansArray (row .command))
+  unfolding ended
+  ended-when cause = by (isNone cause)
     where
-      by : (b : Bool) → r .busy ≡ b → changes (cond (not b) (nothing d) (byOpcode r d s f)) ≡ false
-      by true e = opcode-when (r .command) refl k ∙ answered (r .command) k e
-      by false e = refl
+      or-quiet : (b : Bool) → changes (cond b (aborted cause d) (nothing cause d)) ≡ false
+      or-quiet true = refl
+      or-quiet false = refl
 
--- the five steps, by the mode
-stepped-when : (r : Row) (d : Device) (s : Settings) (f : Facts) → rule r ≡ true → (m : Mode)
-    → changes
-    (cond (ultraDeep m) (control (woken d))
-    (cond (ltb (f .bits) 8) (nothing d)
-    (cond (deep m) (asleep r d f)
-    (cond (f .busy && not (r .busy)) (nothing d)
-    (byOpcode r d s f)))))
-    ≡ (awake m && (not (f .busy) && (not (ltb (f .bits) 8) && readyByOpcode r d f)))
-stepped-when r d s f k UltraDeep = refl
-stepped-when r d s f k Deep =
-    either (ltb (f .bits) 8) (nothing d) (asleep r d f) refl
-    (either (r .asleep && onBoundary f) (control (moved d Awake)) (nothing d) refl refl)
-stepped-when r d s f k Awake = heard-when r d s f (ltb (f .bits) 8) (f .busy) k
+      by : (b : Bool)
+          → changes (cond b (obeyed (row .command) row d s f) (cond (drops cause row) (aborted cause d) (nothing cause d)))
+          ≡ (b && meansArray (row .command))
+      by true = obeyed-when (row .command)
+      by false = or-quiet (drops cause row)
 
--- A frame begins an operation on the array exactly when all of this holds.
-pub exactly-when : (d : Device) (s : Settings) (f : Facts) → changesArray (judged d s f .action) ≡ ready d f
-unfolding judged
-exactly-when d s f = stepped-when (rowOf (f .code)) d s f (rule-kept (f .code)) (d .mode)
+  -- a part that sleeps has a cause
+  sleeps : awake (d .mode) ≡ false → isNone (causeOf row d f) ≡ false
+  sleeps e = by (isNone (causeOf row d f)) refl
+    where
+      by : (b : Bool) → isNone (causeOf row d f) ≡ b → b ≡ false
+      by true n = absurd (true≢false (sym (up row d f n) ∙ e))
+      by false n = refl
+
+  -- No cause, and a program or an erase of the array.
+  pub no-cause-when : changes (judged d s f) ≡ (isNone (causeOf row d f) && meansArray (row .command))
+  unfolding judged
+  no-cause-when = by (d .mode) refl
+    where
+      asleep : awake (d .mode) ≡ false → false ≡ (isNone (causeOf row d f) && meansArray (row .command))
+      asleep e = rw (sleeps e)
+
+      roused : (b : Bool) → awake (d .mode) ≡ false
+          → changes (cond b (ordered Resume d) (ended (causeOf row d f) row d s f))
+          ≡ (isNone (causeOf row d f) && meansArray (row .command))
+      roused true e = asleep e
+      roused false e = ended-when (causeOf row d f)
+
+      by : (m : Mode) → d .mode ≡ m
+          → changes
+          (cond (ultraDeep (d .mode)) (control (woken d))
+          (cond (wakes row d f) (ordered Resume d) (ended (causeOf row d f) row d s f)))
+          ≡ (isNone (causeOf row d f) && meansArray (row .command))
+      by Awake e = rw (ap ultraDeep e, ap deep e) (ended-when (causeOf row d f))
+      by Deep e = rw (ap ultraDeep e) (roused (wakes row d f) (ap awake e))
+      by UltraDeep e = rw (ap ultraDeep e) (asleep (ap awake e))
+
+  -- what may keep a program or an erase of the array from being carried out, in the list's order
+  listed : (few up busy wel even short shut : Bool)
+      → isNone
+      (cond few TooFewBits
+      (cond (not up) Asleep
+      (cond (busy && true) Busy
+      (cond (not wel) LatchClear
+      (cond (not even) OffBoundary
+      (cond short Incomplete
+      (cond shut Protected None)))))))
+      ≡ (not few && (up && (not busy && (wel && (even && (not short && not shut))))))
+  listed true up busy wel even short shut = refl
+  listed false false busy wel even short shut = refl
+  listed false true true wel even short shut = refl
+  listed false true false false even short shut = refl
+  listed false true false true false short shut = refl
+  listed false true false true true true shut = refl
+  listed false true false true true false true = refl
+  listed false true false true true false false = refl
+
+  abbrev asReady : Bool
+  asReady =
+      not (ltb (f .bits) 8) &&
+      (awake (d .mode) &&
+      (not (f .busy) && (d .wel && (onBoundary f && (not (ltb (f .bytes) (row .bytes)) && not (d .bp0))))))
+
+  work-ready : (work : Work) → row .command ≡ Works work → worksOnArray work ≡ true → isNone (causeOf row d f) ≡ asReady
+  unfolding causeOf
+  work-ready work e w = by work w e (work-needs (f .code) work e)
+    where
+      all : isNone
+          (cond (ltb (f .bits) 8) TooFewBits
+          (cond (not (awake (d .mode))) Asleep
+          (cond (f .busy && true) Busy
+          (cond (not (d .wel)) LatchClear
+          (cond (not (onBoundary f)) OffBoundary
+          (cond (ltb (f .bytes) (row .bytes)) Incomplete
+          (cond (d .bp0) Protected None)))))))
+          ≡ asReady
+      all = listed (ltb (f .bits) 8) (awake (d .mode)) (f .busy) (d .wel) (onBoundary f) (ltb (f .bytes) (row .bytes)) (d .bp0)
+
+      by : (work : Work) → worksOnArray work ≡ true → row .command ≡ Works work
+          → (row .boundary ≡ true) × (row .latch ≡ true) × (row .busy ≡ false) × (row .asleep ≡ false)
+          → isNone (causeOf row d f) ≡ asReady
+      by Work.Program w e n = rw (e, n .0, n .1, n .2, n .3) all
+      by (Work.Erase region) w e n = rw (e, n .0, n .1, n .2, n .3) all
+      by Work.Otp w e n = absurd (true≢false (sym w))
+      by Work.WriteStatus w e n = absurd (true≢false (sym w))
+      by Work.WriteStatusTwo w e n = absurd (true≢false (sym w))
+
+  -- that is when all of this holds
+  pub no-cause-ready : (isNone (causeOf row d f) && meansArray (row .command)) ≡ ready d f
+  no-cause-ready = by (row .command) refl
+    where
+      never : (a b c : Bool) → false ≡ (a && (b && (c && false)))
+      never a b c = rw (and-false c, and-false b, and-false a)
+
+      other : (command : Command) → row .command ≡ command → meansArray command ≡ false
+          → (isNone (causeOf row d f) && meansArray (row .command)) ≡ ready d f
+      other command e m =
+          rw (ap meansArray e ∙ m) (and-false (isNone (causeOf row d f)) ∙ never (not (ltb (f .bits) 8)) (awake (d .mode)) (not (f .busy)))
+
+      of-work : (work : Work) (b : Bool) → row .command ≡ Works work → worksOnArray work ≡ b
+          → (isNone (causeOf row d f) && meansArray (row .command)) ≡ ready d f
+      of-work work true e w = rw (ap meansArray e ∙ w) (and-true (isNone (causeOf row d f)) ∙ work-ready work e w)
+      of-work work false e w = other (Works work) e w
+
+      by : (command : Command) → row .command ≡ command
+          → (isNone (causeOf row d f) && meansArray (row .command)) ≡ ready d f
+      by Unlisted e = other Unlisted e refl
+      by (Reads source) e = other (Reads source) e refl
+      by (Orders order) e = other (Orders order) e refl
+      by (Works work) e = of-work work (worksOnArray work) e refl
+
+  -- A frame begins an operation on the array exactly when all of this holds.
+  pub exactly-when : changesArray (judged d s f .action) ≡ ready d f
+  exactly-when = no-cause-when ∙ no-cause-ready

@@ -1,6 +1,7 @@
 -- What holds of each answer that judging can give holds of judging: one law, and its uses. Assumes nothing.
 use Prim.Native.Nat.{_+_, _≤_}
-use mathlib.Core.Bool.{Bool, true, false, true≢false, false≢true, cond, not, _&&_, _||_, and-true, and-false, and-eq-true-iff, Bool·beq}
+use mathlib.Core.Bool.{Bool, true, false, true≢false, false≢true, cond, not, _&&_, _||_, and-true, and-false}
+use mathlib.Core.Bool.{and-eq-true-iff, Bool·beq}
 use mathlib.Core.Logic.{_≢_}
 use mathlib.Core.Path.{_≡_, refl, sym, ap, subst, _∙_}
 use native.Mathlib.Decide.{ℕ-discrete}
@@ -15,8 +16,9 @@ use Rattle.opcodes.specs.declared.Order.the-variants.{Enable, Disable, DeepPowe
 use Rattle.opcodes.specs.declared.Source.{Source}
 use Rattle.opcodes.specs.declared.Work.{Work}
 use Rattle.opcodes.specs.Rows.{rowOf}
-use Rattle.opcodes.specs.Rule.{ruleOf, orderedWhileBusy}
-use Rattle.opcodes.proofs.Table.{rule-kept}
+use Rattle.opcodes.specs.Kinds.{meansArray, worksOnArray}
+use Rattle.opcodes.specs.Rule.{orderedWhileBusy}
+use Rattle.opcodes.proofs.Kept.{order-needs}
 use Rattle.device.specs.declared.Device.{Device}
 use Rattle.device.specs.declared.Mode.{Mode}
 use Rattle.device.specs.declared.Mode.the-variants.{Awake, Deep, UltraDeep}
@@ -26,11 +28,16 @@ use Rattle.settings.specs.Settings.{longest, placeOf, durationOf, anyUnfair}
 use Rattle.settings.proofs.Durations.{none-longer}
 use Rattle.judge.specs.declared.Facts.{Facts}
 use Rattle.judge.specs.declared.Judged.{Judged}
+use Rattle.judge.specs.declared.Cause.{Cause}
+use Rattle.judge.specs.declared.Cause.the-variants.{UnknownOpcode}
 use Rattle.judge.specs.declared.Outcome.{Outcome}
 use Rattle.judge.specs.declared.Action.{Action}
-use Rattle.judge.specs.Begins.{changesArray, asksFor, lasts, meansArray, worksOnArray}
+use Rattle.judge.specs.Begins.{changesArray, asksFor, lasts}
 use Rattle.device.specs.Device.{awake, deep, ultraDeep, isBusy, unsound, latched, dropped, moved, woken, reset}
-use Rattle.judge.specs.Judging.{quiet, nothing, control, aborted, driven, read, eraseKind, programKind, barred, ordered, carried, obeyed, complete, byOpcode, asleep, onBoundary, judged}
+use Rattle.judge.specs.Causes.{isNone, causeOf, drops}
+use Rattle.judge.specs.Judging.{quiet, nothing, control, aborted, driven, read, eraseKind, programKind, ordered}
+use Rattle.judge.specs.Judging.{carried, obeyed, ended, wakes, judged}
+use Rattle.judge.proofs.Causes.{unhindered, up}
 use Rattle.device.proofs.Records.{sound-then, then-sound}
 
 -- A frame is heard: the part is awake, and was idle at the first bit unless a busy part answers the row.
@@ -38,72 +45,64 @@ pub record Heard (d : Device) (f : Facts) : Type 0 where
   pub up : awake (d .mode) ≡ true
   pub answers : (f .busy && not (rowOf (f .code) .busy)) ≡ false
 
--- An answer is nothing, a waking from either sleep, an abort, or what the command of a heard frame gives.
-module _ (d : Device) (s : Settings) (f : Facts) (P : Judged → Type 0) (still : P (nothing d)) (waking : ultraDeep (d .mode) ≡ true → P (control (woken d)))
-    (rousing : deep (d .mode) ≡ true → P (control (moved d Awake))) (aborting : P (aborted d))
+-- An answer is nothing, an abort, a waking from either sleep, or what the command of a heard frame gives.
+module _ (d : Device) (s : Settings) (f : Facts) (P : Judged → Type 0) (still : (cause : Cause) → P (nothing cause d))
+    (aborting : (cause : Cause) → P (aborted cause d)) (waking : ultraDeep (d .mode) ≡ true → P (control (woken d)))
+    (rousing : deep (d .mode) ≡ true → P (ordered Resume d))
     (reading : (source : Source) → rowOf (f .code) .command ≡ Reads source → P (read (rowOf (f .code)) source d f))
-    (ordering : (order : Order) → rowOf (f .code) .command ≡ Orders order → Heard d f → P (ordered order d f))
-    (carrying : (work : Work) → rowOf (f .code) .command ≡ Works work → Heard d f → barred work d f ≡ false → P (carried work d s f)) where
+    (ordering : (order : Order) → rowOf (f .code) .command ≡ Orders order → Heard d f → P (ordered order d))
+    (carrying : (work : Work) → rowOf (f .code) .command ≡ Works work → Heard d f → P (carried work d s f)) where
   choice : (b : Bool) (x y : Judged) → (b ≡ true → P x) → (b ≡ false → P y) → P (cond b x y)
   choice true x y p q = p refl
   choice false x y p q = q refl
 
-  of-command : (command : Command) → rowOf (f .code) .command ≡ command → Heard d f → P (obeyed command (rowOf (f .code)) d s f)
-  of-command Unlisted e h = still
+  of-command : (command : Command) → rowOf (f .code) .command ≡ command → Heard d f
+      → P (obeyed command (rowOf (f .code)) d s f)
+  of-command Unlisted e h = still UnknownOpcode
   of-command (Reads source) e h = reading source e
   of-command (Orders order) e h = ordering order e h
-  of-command (Works work) e h = choice (barred work d f) (aborted d) (carried work d s f) (λ t. aborting) (carrying work e h)
+  of-command (Works work) e h = carrying work e h
 
-  of-opcode : (r : Row) → P (obeyed (r .command) r d s f) → P (byOpcode r d s f)
-  unfolding byOpcode
-  of-opcode r p =
-      choice (r .latch && not (d .wel)) (nothing d) (cond (complete r f) (obeyed (r .command) r d s f) (cond (r .latch) (aborted d) (nothing d))) (λ t. still)
-      (λ t.
-      choice (complete r f) (obeyed (r .command) r d s f) (cond (r .latch) (aborted d) (nothing d)) (λ t. p)
-      (λ t. choice (r .latch) (aborted d) (nothing d) (λ t. aborting) (λ t. still)))
+  heard : isNone (causeOf (rowOf (f .code)) d f) ≡ true → Heard d f
+  heard n = record { up = up (rowOf (f .code)) d f n; answers = unhindered (rowOf (f .code)) d f n .1 .1 .0 }
 
-  neither : (m : Mode) → ultraDeep m ≡ false → deep m ≡ false → awake m ≡ true
-  neither Awake u e = refl
-  neither Deep u e = absurd (true≢false e)
-  neither UltraDeep u e = absurd (true≢false u)
+  of-cause : P (ended (causeOf (rowOf (f .code)) d f) (rowOf (f .code)) d s f)
+  unfolding ended
+  of-cause =
+      let r = rowOf (f .code) in
+      let cause = causeOf r d f in
+      choice (isNone cause) (obeyed (r .command) r d s f) (cond (drops cause r) (aborted cause d) (nothing cause d))
+      (λ n. of-command (r .command) refl (heard n))
+      (λ n. choice (drops cause r) (aborted cause d) (nothing cause d) (λ t. aborting cause) (λ t. still cause))
 
   pub each-answer : P (judged d s f)
   unfolding judged
   each-answer =
       let r = rowOf (f .code) in
-      let heard = cond (f .busy && not (r .busy)) (nothing d) (byOpcode r d s f) in
-      choice (ultraDeep (d .mode)) (control (woken d))
-      (cond (ltb (f .bits) 8) (nothing d) (cond (deep (d .mode)) (asleep (rowOf (f .code)) d f) heard)) waking
+      let listed = ended (causeOf r d f) r d s f in
+      choice (ultraDeep (d .mode)) (control (woken d)) (cond (wakes r d f) (ordered Resume d) listed) waking
       (λ u.
-      choice (ltb (f .bits) 8) (nothing d) (cond (deep (d .mode)) (asleep (rowOf (f .code)) d f) heard) (λ t. still)
-      (λ t.
-      choice (deep (d .mode)) (asleep (rowOf (f .code)) d f) heard
-      (λ e. choice (rowOf (f .code) .asleep && onBoundary f) (control (moved d Awake)) (nothing d) (λ t. rousing e)
-      (λ t. still))
-      (λ e.
-      choice (f .busy && not (r .busy)) (nothing d) (byOpcode r d s f) (λ t. still)
-      (λ a. of-opcode r (of-command (r .command) refl (record { up = neither (d .mode) u e; answers = a }))))))
+      choice (wakes r d f) (ordered Resume d) listed (λ w. rousing (and-eq-true-iff (deep (d .mode)) _ .0 w .0))
+      (λ w. of-cause))
 
 -- The same for what does not care how a quiet answer came about: an answer is quiet, a read, or a command carried out.
-module _ (d : Device) (s : Settings) (f : Facts) (P : Judged → Type 0) (quietly : (outcome : Outcome) (e : Device) → P (quiet outcome e))
+module _ (d : Device) (s : Settings) (f : Facts) (P : Judged → Type 0)
+    (quietly : (outcome : Outcome) (e : Device) → P (quiet outcome e))
     (reading : (source : Source) → rowOf (f .code) .command ≡ Reads source → P (read (rowOf (f .code)) source d f))
     (carrying : (work : Work) → rowOf (f .code) .command ≡ Works work → P (carried work d s f)) where
-  of-order : (order : Order) → P (ordered order d f)
+  of-order : (order : Order) → P (ordered order d)
   of-order Enable = quietly Outcome.Control (latched d)
   of-order Disable = quietly Outcome.Control (dropped d)
   of-order DeepPowerDown = quietly Outcome.Control (moved d Deep)
   of-order UltraDeepPowerDown = quietly Outcome.Control (moved d UltraDeep)
-  of-order Resume = quietly Outcome.Nothing d
-  of-order Reset = by (d .rste && eqb (f .second) 0xD0)
-    where
-      by : (b : Bool) → P (cond b (control (reset d)) (nothing d))
-      by true = quietly Outcome.Control (reset d)
-      by false = quietly Outcome.Nothing d
+  of-order Resume = quietly Outcome.Control (moved d Awake)
+  of-order Reset = quietly Outcome.Control (reset d)
 
   pub each-kind : P (judged d s f)
   each-kind =
-      each-answer d s f P (quietly Outcome.Nothing d) (λ u. quietly Outcome.Control (woken d)) (λ e. quietly Outcome.Control (moved d Awake))
-      (quietly Outcome.Aborted (dropped d)) reading (λ order e h. of-order order) (λ work e h b. carrying work e)
+      each-answer d s f P (λ cause. quietly (Outcome.Nothing cause) d) (λ cause. quietly (Outcome.Aborted cause) (dropped d))
+      (λ u. quietly Outcome.Control (woken d)) (λ e. quietly Outcome.Control (moved d Awake)) reading
+      (λ order e h. of-order order) (λ work e h. carrying work e)
 
 -- no position behind the frame's last one is driven
 pub within : (d : Device) (s : Settings) (f : Facts) → judged d s f .first + judged d s f .driven ≤ f .bytes
@@ -140,10 +139,10 @@ as-asked d s f = each-kind d s f (Faithful f) (λ o e c. absurd (false≢true c)
 
 -- what is begun
 abbrev isBegun : Outcome → Bool
-isBegun Outcome.Nothing = false
+isBegun (Outcome.Nothing cause) = false
 isBegun Outcome.Read = false
 isBegun Outcome.Control = false
-isBegun Outcome.Aborted = false
+isBegun (Outcome.Aborted cause) = false
 isBegun Outcome.Begun = true
 
 -- was a command that needs WEL: of such a one what holds of each of these commands holds
@@ -155,23 +154,19 @@ begun-by-work : (d : Device) (s : Settings) (f : Facts) (P : Judged → Type 0)
     → P (carried work d s f))
     → isBegun (judged d s f .outcome) ≡ true → P (judged d s f)
 begun-by-work d s f P of-work =
-    each-answer d s f (IfBegun P) none (λ m. none) (λ m. none) none (λ source e. none) (λ order e h. of-order order)
-    (λ work e h b. of-work work e)
+    each-answer d s f (IfBegun P) (λ cause. none) (λ cause. none) (λ m. none) (λ m. none) (λ source e. none)
+    (λ order e h. of-order order) (λ work e h. of-work work e)
   where
     none : {A : Type 0} → false ≡ true → A
     none c = absurd (false≢true c)
 
-    of-order : (order : Order) → IfBegun P (ordered order d f)
+    of-order : (order : Order) → IfBegun P (ordered order d)
     of-order Enable = none
     of-order Disable = none
     of-order DeepPowerDown = none
     of-order UltraDeepPowerDown = none
     of-order Resume = none
-    of-order Reset = by (d .rste && eqb (f .second) 0xD0)
-      where
-        by : (b : Bool) → IfBegun P (cond b (control (reset d)) (nothing d))
-        by true = none
-        by false = none
+    of-order Reset = none
 
 -- It takes effect, if the opcode is a program or an erase of the array,
 pub begun-acts : (d : Device) (s : Settings) (f : Facts) → judged d s f .outcome ≡ Outcome.Begun
@@ -216,24 +211,16 @@ reset-still d s f r =
     isOrder (Orders order) = true
     isOrder (Works work) = false
 
--- a control command that a busy part does not answer finds the part idle
-idle-order : (d : Device) (f : Facts) (order : Order) → rowOf (f .code) .command ≡ Orders order → orderedWhileBusy order ≡ false → Heard d f → f .busy ≡ false
-idle-order d f order e o h =
-    let r = rowOf (f .code) in
-    let kept : ruleOf (Orders order) r ≡ true = subst (λ (c : Command). ruleOf c r ≡ true) e (rule-kept (f .code)) in
-    let answers : Bool·beq (r .busy) (orderedWhileBusy order) ≡ true =
-    and-eq-true-iff (r .boundary && not (r .latch)) _ .0 (and-eq-true-iff _ (eqb (r .most) 0) .0 kept .0) .1 in
-    by (r .busy) (rw o at answers) (h .answers)
-  where
-    by : (b : Bool) → Bool·beq b false ≡ true → (f .busy && not b) ≡ false → f .busy ≡ false
-    by true n a = absurd (false≢true n)
-    by false n a = sym (and-true (f .busy)) ∙ a
+-- a command that a busy part does not answer finds the part idle
+pub found-idle : (d : Device) (f : Facts) → rowOf (f .code) .busy ≡ false → Heard d f → f .busy ≡ false
+found-idle d f b h = sym (and-true (f .busy)) ∙ rw b at (h .answers)
 
 -- a record that is accepted gives one that is accepted, if the settings are, and if a part that was idle at the first bit is at the rise
 pub stays-sound : (d : Device) (s : Settings) (f : Facts) → unsound d ≡ false → anyUnfair (s .ticks) ≡ false → (f .busy ≡ false → isBusy d ≡ false)
     → unsound (judged d s f .device) ≡ false
 stays-sound d s f u fair still =
-    each-answer d s f (λ (j : Judged). unsound (j .device) ≡ false) u (λ m. awoken) (λ m. awoken) u (λ source e. u) of-order (λ work e h b. of-work work (h .up))
+    each-answer d s f (λ (j : Judged). unsound (j .device) ≡ false) (λ cause. u) (λ cause. u) (λ m. awoken) (λ m. awoken)
+    (λ source e. u) of-order (λ work e h. of-work work (h .up))
   where
     awoken : unsound (moved d Awake) ≡ false
     awoken = then-sound (moved d Awake) (record { short = sound-then d u .short; idle = λ n. absurd (true≢false n) })
@@ -241,20 +228,16 @@ stays-sound d s f u fair still =
     asleep : (mode : Mode) (order : Order) → rowOf (f .code) .command ≡ Orders order → orderedWhileBusy order ≡ false → Heard d f
         → unsound (moved d mode) ≡ false
     asleep mode order e o h =
-        let none : d .busy ≤ 0 = ltb-false 0 (d .busy) (still (idle-order d f order e o h)) in
+        let none : d .busy ≤ 0 = ltb-false 0 (d .busy) (still (found-idle d f (order-needs (f .code) order e .2 ∙ o) h)) in
         then-sound (moved d mode) (record { short = sound-then d u .short; idle = λ n. omega arith })
 
-    of-order : (order : Order) → rowOf (f .code) .command ≡ Orders order → Heard d f → unsound (ordered order d f .device) ≡ false
+    of-order : (order : Order) → rowOf (f .code) .command ≡ Orders order → Heard d f → unsound (ordered order d .device) ≡ false
     of-order Enable e h = u
     of-order Disable e h = u
     of-order DeepPowerDown e h = asleep Deep DeepPowerDown e refl h
     of-order UltraDeepPowerDown e h = asleep UltraDeep UltraDeepPowerDown e refl h
-    of-order Resume e h = u
-    of-order Reset e h = by (d .rste && eqb (f .second) 0xD0)
-      where
-        by : (b : Bool) → unsound (cond b (control (reset d)) (nothing d) .device) ≡ false
-        by true = refl
-        by false = u
+    of-order Resume e h = awoken
+    of-order Reset e h = refl
 
     begins : (kind : Kind) → awake (d .mode) ≡ true → (ltb longest (durationOf s kind) || (ltb 0 (durationOf s kind) && not (awake (d .mode)))) ≡ false
     begins kind w = rw (none-longer (s .ticks) (placeOf kind) fair, w) (and-false (ltb 0 (durationOf s kind)))

@@ -1,2 +1,4 @@
-pub mod Begins
+pub mod Causes
 pub mod Leaves
+pub mod Begins
+pub mod Bare

@@ -2,12 +2,12 @@
 -- Assumes nothing.
 use Prim.Native.Nat.{ℕ}
 use mathlib.Core.Bool.{Bool, true, false, not, _&&_}
-use lib.Dec.{leb, ltb}
-use Rattle.opcodes.specs.declared.Row.{Row}
+use lib.Dec.{ltb}
 use Rattle.opcodes.specs.declared.Command.{Command}
 use Rattle.opcodes.specs.declared.Command.the-variants.{Unlisted, Reads, Orders, Works}
 use Rattle.opcodes.specs.declared.Work.{Work}
 use Rattle.opcodes.specs.Rows.{rowOf}
+use Rattle.opcodes.specs.Kinds.{meansArray}
 use Rattle.device.specs.declared.Device.{Device}
 use Rattle.judge.specs.declared.Action.{Action}
 use Rattle.judge.specs.declared.Facts.{Facts}
@@ -15,7 +15,8 @@ use Rattle.device.specs.Device.{awake}
 use Rattle.settings.specs.declared.Kind.{Kind}
 use Rattle.settings.specs.declared.Settings.{Settings}
 use Rattle.settings.specs.Settings.{durationOf}
-use Rattle.judge.specs.Judging.{onBoundary, eraseKind, programKind}
+use Rattle.judge.specs.Causes.{onBoundary}
+use Rattle.judge.specs.Judging.{eraseKind, programKind}
 
 -- the action programs or erases the array
 abbrev pub changesArray : Action → Bool
@@ -24,20 +25,6 @@ changesArray (Action.Drive source) = false
 changesArray Action.Program = true
 changesArray (Action.Erase region) = true
 changesArray Action.Otp = false
-
-abbrev pub worksOnArray : Work → Bool
-worksOnArray Work.Program = true
-worksOnArray (Work.Erase region) = true
-worksOnArray Work.Otp = false
-worksOnArray Work.WriteStatus = false
-worksOnArray Work.WriteStatusTwo = false
-
--- the opcode is a program or an erase of the array
-abbrev pub meansArray : Command → Bool
-meansArray Unlisted = false
-meansArray (Reads source) = false
-meansArray (Orders order) = false
-meansArray (Works work) = worksOnArray work
 
 -- what a program or an erase asks for; nothing, of any other opcode
 abbrev pub workAsks : Work → Action
@@ -53,14 +40,15 @@ asksFor (Reads source) = Action.Still
 asksFor (Orders order) = Action.Still
 asksFor (Works work) = workAsks work
 
--- by opcode: a program or an erase, complete, on a boundary, write-enabled, unprotected
-abbrev pub readyByOpcode : Row → Device → Facts → Bool
-readyByOpcode r d f =
-    meansArray (r .command) && (leb (r .bytes) (f .bytes) && (onBoundary f && (d .wel && not (d .bp0))))
-
--- and awake, idle at its first bit, with a whole opcode
+-- a whole opcode, the part awake and idle at the first bit, a program or an erase, write-enabled, on a boundary,
+-- complete, unprotected
 abbrev pub ready : Device → Facts → Bool
-ready d f = awake (d .mode) && (not (f .busy) && (not (ltb (f .bits) 8) && readyByOpcode (rowOf (f .code)) d f))
+ready d f =
+    not (ltb (f .bits) 8) &&
+    (awake (d .mode) &&
+    (not (f .busy) &&
+    (meansArray (rowOf (f .code) .command) &&
+    (d .wel && (onBoundary f && (not (ltb (f .bytes) (rowOf (f .code) .bytes)) && not (d .bp0)))))))
 
 -- how many ticks the operation of an opcode takes, from the rise of its frame on; none, of an opcode that begins none
 abbrev pub workLasts : Work → Settings → Facts → ℕ

@@ -1,2 +1,4 @@
+pub mod Causes
 pub mod Judging
+pub mod Bare
 pub mod Begins

@@ -10,7 +10,9 @@ use opcodes::Source;
 use opcodes::Work;
 use settings::Kind;
 use settings::Settings;
+ghost use mathlib.Core.Bool.{cond};
 ghost use mathlib.Core.Path.{_≡_};
+ghost use Rattle.judge.specs.Causes as causes;
 ghost use Rattle.judge.specs.Judging as judging;
 
 // What is known of a frame without its data: the opcode, the second byte, the address, the number of bytes, the bits
@@ -25,12 +27,73 @@ pub struct Facts {
     pub busy: bool,
 }
 
-// The outcomes, by document 01's words.
+// Why nothing came of a frame, or why it was aborted, in request R-5's order. A call that is refused has none.
+pub enum Cause {
+    None,
+    TooFewBits,
+    Asleep,
+    Busy,
+    UnknownOpcode,
+    LatchClear,
+    ResetUnconfirmed,
+    OffBoundary,
+    Incomplete,
+    Protected,
+    Locked,
+    AlreadyProgrammed,
+    AlreadyAwake,
+}
+
+impl Cause {
+    // Its place in the list; 0 for none.
+    pub fn number(self) -> u8
+        ensures { λ r. ⌜ r ≡ causes.causeNumber self ⌝ }
+    {
+        match self {
+            Cause::None => 0,
+            Cause::TooFewBits => 1,
+            Cause::Asleep => 2,
+            Cause::Busy => 3,
+            Cause::UnknownOpcode => 4,
+            Cause::LatchClear => 5,
+            Cause::ResetUnconfirmed => 6,
+            Cause::OffBoundary => 7,
+            Cause::Incomplete => 8,
+            Cause::Protected => 9,
+            Cause::Locked => 10,
+            Cause::AlreadyProgrammed => 11,
+            Cause::AlreadyAwake => 12,
+        }
+    }
+
+    // Whether a frame with this cause drops the latch, which its command needed and had.
+    fn drops(self, row: Row) -> bool
+        ensures { λ r. ⌜ r ≡ causes.drops self row ⌝ }
+    {
+        match self {
+            Cause::None => false,
+            Cause::TooFewBits => false,
+            Cause::Asleep => false,
+            Cause::Busy => false,
+            Cause::UnknownOpcode => false,
+            Cause::LatchClear => false,
+            Cause::ResetUnconfirmed => false,
+            Cause::OffBoundary => row.latch,
+            Cause::Incomplete => row.latch,
+            Cause::Protected => true,
+            Cause::Locked => true,
+            Cause::AlreadyProgrammed => true,
+            Cause::AlreadyAwake => false,
+        }
+    }
+}
+
+// The outcomes, by document 01's words; nothing and aborted with their cause.
 pub enum Outcome {
-    Nothing,
+    Nothing(Cause),
     Read,
     Control,
-    Aborted,
+    Aborted(Cause),
     Begun,
 }
 
@@ -67,13 +130,6 @@ fn quiet(outcome: Outcome, device: Device) -> Judged
     }
 }
 
-// The latch drops, and there is no operation.
-fn aborted(device: Device) -> Judged
-    ensures { λ r. ⌜ r ≡ judging.aborted device ⌝ }
-{
-    quiet(Outcome::Aborted, device.dropped())
-}
-
 // The latch drops, and the operation takes effect: the part is busy for so many ticks.
 fn begun(device: Device, ticks: u64, action: Action) -> Judged
     ensures { λ r. ⌜ r ≡ judging.begun device ticks action ⌝ }
@@ -90,7 +146,7 @@ fn begun(device: Device, ticks: u64, action: Action) -> Judged
 
 // Whether the bit count is divisible by 8.
 fn on_boundary(facts: Facts) -> bool
-    ensures { λ r. ⌜ r ≡ judging.onBoundary facts ⌝ }
+    ensures { λ r. ⌜ r ≡ causes.onBoundary facts ⌝ }
 {
     facts.bits % 8 == 0
 }
@@ -134,27 +190,17 @@ fn read(row: Row, source: Source, device: Device, facts: Facts) -> Judged
     }
 }
 
-// Reset, if it is enabled and confirmed.
-fn reset(device: Device, facts: Facts) -> Judged
-    ensures { λ r. ⌜ r ≡ judging.ordered Order.Reset device facts ⌝ }
-{
-    if device.rste & (facts.second == 0xD0) {
-        return quiet(Outcome::Control, device.reset());
-    }
-    quiet(Outcome::Nothing, device)
-}
-
 // The control commands.
-fn ordered(order: Order, device: Device, facts: Facts) -> Judged
-    ensures { λ r. ⌜ r ≡ judging.ordered order device facts ⌝ }
+fn ordered(order: Order, device: Device) -> Judged
+    ensures { λ r. ⌜ r ≡ judging.ordered order device ⌝ }
 {
     match order {
         Order::Enable => quiet(Outcome::Control, device.latched()),
         Order::Disable => quiet(Outcome::Control, device.dropped()),
         Order::DeepPowerDown => quiet(Outcome::Control, device.moved(Mode::Deep)),
         Order::UltraDeepPowerDown => quiet(Outcome::Control, device.moved(Mode::UltraDeep)),
-        Order::Resume => quiet(Outcome::Nothing, device),
-        Order::Reset => reset(device, facts),
+        Order::Resume => quiet(Outcome::Control, device.moved(Mode::Awake)),
+        Order::Reset => quiet(Outcome::Control, device.reset()),
     }
 }
 
@@ -180,20 +226,7 @@ fn program_kind(facts: Facts) -> Kind
     Kind::LongerProgram
 }
 
-// Whether protection, the OTP-used mark or the locked status keeps a command from being carried out.
-fn barred(work: Work, device: Device, facts: Facts) -> bool
-    ensures { λ r. ⌜ r ≡ judging.barred work device facts ⌝ }
-{
-    match work {
-        Work::Program => device.bp0,
-        Work::Erase(_) => device.bp0,
-        Work::Otp => device.used,
-        Work::WriteStatus => device.bpl & !facts.wp,
-        Work::WriteStatusTwo => false,
-    }
-}
-
-// A command that nothing keeps from being carried out.
+// The commands that need the latch.
 fn carried(work: Work, device: Device, settings: Settings, facts: Facts) -> Judged
     ensures { λ r. ⌜ r ≡ judging.carried work device settings facts ⌝ }
 {
@@ -222,63 +255,78 @@ fn carried(work: Work, device: Device, settings: Settings, facts: Facts) -> Judg
     }
 }
 
-// A command that needs the latch, complete, on a boundary and latched: carried out or aborted.
-fn worked(work: Work, device: Device, settings: Settings, facts: Facts) -> Judged
-    ensures { λ r. ⌜ r ≡ judging.worked work device settings facts ⌝ }
-{
-    if barred(work, device, facts) {
-        return aborted(device);
-    }
-    carried(work, device, settings, facts)
-}
-
-// A command that has what its row needs.
+// A command is carried out.
 fn obeyed(row: Row, device: Device, settings: Settings, facts: Facts) -> Judged
     ensures { λ r. ⌜ r ≡ judging.obeyed (row .command) row device settings facts ⌝ }
 {
     let command = row.command;
     match command {
-        Command::Unlisted => quiet(Outcome::Nothing, device),
+        Command::Unlisted => quiet(Outcome::Nothing(Cause::UnknownOpcode), device),
         Command::Reads(source) => read(row, source, device, facts),
-        Command::Orders(order) => ordered(order, device, facts),
-        Command::Works(work) => worked(work, device, settings, facts),
+        Command::Orders(order) => ordered(order, device),
+        Command::Works(work) => carried(work, device, settings, facts),
     }
 }
 
-// Whether the frame has the bytes that the row needs, and the boundary if it needs one.
-fn complete(row: Row, facts: Facts) -> bool
-    ensures { λ r. ⌜ r ≡ judging.complete row facts ⌝ }
+// A cause that holds comes before the rest of the list.
+fn first(holds: bool, cause: Cause, rest: Cause) -> Cause
+    ensures { λ r. ⌜ r ≡ cond holds cause rest ⌝ }
 {
-    (row.bytes as usize <= facts.bytes) & (on_boundary(facts) | !row.boundary)
+    if holds { cause } else { rest }
 }
 
-// By opcode: nothing without the latch that it needs; else obeyed if complete, aborted if not.
-fn by_opcode(row: Row, device: Device, settings: Settings, facts: Facts) -> Judged
-    ensures { λ r. ⌜ r ≡ judging.byOpcode row device settings facts ⌝ }
+// Whether a reset is enabled, and confirmed by a second byte that was clocked whole.
+fn confirmed(device: Device, facts: Facts) -> bool
+    ensures { λ r. ⌜ r ≡ causes.confirmed device facts ⌝ }
 {
-    if row.latch & !device.wel {
-        return quiet(Outcome::Nothing, device);
-    }
-    if complete(row, facts) {
+    device.rste & ((facts.second == 0xD0) & (16 <= facts.bits))
+}
+
+// Why a command is not carried out: the first cause of the request's list that holds. The list is made from its end on.
+fn cause_of(row: Row, device: Device, facts: Facts) -> Cause
+    ensures { λ r. ⌜ r ≡ causes.causeOf row device facts ⌝ }
+{
+    let mode = device.mode;
+    let command = row.command;
+    let used = device.used;
+    let locked = device.bpl & !facts.wp;
+    let reset = confirmed(device, facts);
+    let rest = first(row.asleep, Cause::AlreadyAwake, Cause::None);
+    let rest = first(command.is_otp() & used, Cause::AlreadyProgrammed, rest);
+    let rest = first(command.is_status() & locked, Cause::Locked, rest);
+    let rest = first(command.is_on_array() & device.bp0, Cause::Protected, rest);
+    let rest = first(facts.bytes < row.bytes as usize, Cause::Incomplete, rest);
+    let rest = first(row.boundary & !on_boundary(facts), Cause::OffBoundary, rest);
+    let rest = first(command.is_reset() & !reset, Cause::ResetUnconfirmed, rest);
+    let rest = first(row.latch & !device.wel, Cause::LatchClear, rest);
+    let rest = first(command.is_unlisted(), Cause::UnknownOpcode, rest);
+    let rest = first(facts.busy & !row.busy, Cause::Busy, rest);
+    let rest = first(!mode.is_awake(), Cause::Asleep, rest);
+    first(facts.bits < 8, Cause::TooFewBits, rest)
+}
+
+// By its cause: carried out without one, else aborted if the latch drops, else nothing.
+fn ended(cause: Cause, row: Row, device: Device, settings: Settings, facts: Facts) -> Judged
+    ensures { λ r. ⌜ r ≡ judging.ended cause row device settings facts ⌝ }
+{
+    if cause.number() == 0 {
         return obeyed(row, device, settings, facts);
     }
-    if row.latch {
-        return aborted(device);
+    if cause.drops(row) {
+        return quiet(Outcome::Aborted(cause), device.dropped());
     }
-    quiet(Outcome::Nothing, device)
+    quiet(Outcome::Nothing(cause), device)
 }
 
-// In deep power-down only the row that says so is heard, on a boundary: ABh.
-fn asleep(row: Row, device: Device, facts: Facts) -> Judged
-    ensures { λ r. ⌜ r ≡ judging.asleep row device facts ⌝ }
+// Whether the frame wakes a part in deep power-down: the row that says so, on a boundary, which is ABh.
+fn wakes(row: Row, device: Device, facts: Facts) -> bool
+    ensures { λ r. ⌜ r ≡ judging.wakes row device facts ⌝ }
 {
-    if row.asleep & on_boundary(facts) {
-        return quiet(Outcome::Control, device.moved(Mode::Awake));
-    }
-    quiet(Outcome::Nothing, device)
+    let mode = device.mode;
+    mode.is_deep() & (!(facts.bits < 8) & (row.asleep & on_boundary(facts)))
 }
 
-// The five steps, in document 01's order.
+// What wakes the part comes first; all else goes by the list of causes, and by opcode if none holds.
 pub fn judge(device: Device, settings: Settings, facts: Facts) -> Judged
     ensures { λ r. ⌜ r ≡ judging.judged device settings facts ⌝ }
 {
@@ -286,15 +334,9 @@ pub fn judge(device: Device, settings: Settings, facts: Facts) -> Judged
     if mode.is_ultra_deep() {
         return quiet(Outcome::Control, device.woken());
     }
-    if facts.bits < 8 {
-        return quiet(Outcome::Nothing, device);
-    }
-    if mode.is_deep() {
-        return asleep(opcodes::row_of(facts.code), device, facts);
-    }
     let row = opcodes::row_of(facts.code);
-    if facts.busy & !row.busy {
-        return quiet(Outcome::Nothing, device);
+    if wakes(row, device, facts) {
+        return ordered(Order::Resume, device);
     }
-    by_opcode(row, device, settings, facts)
+    ended(cause_of(row, device, facts), row, device, settings, facts)
 }

@@ -1,3 +1,4 @@
 mod Spelling
 mod Lookup
 pub mod Table
+pub mod Kept

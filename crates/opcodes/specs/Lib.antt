@@ -1,3 +1,4 @@
 pub mod Commands
 pub mod Rows
+pub mod Kinds
 pub mod Rule

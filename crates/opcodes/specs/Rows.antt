@@ -45,7 +45,7 @@ rows =
     row 0x04 1 0 0 true false false false (Orders Disable) ∷
     row 0xB9 1 0 0 true false false false (Orders DeepPowerDown) ∷
     row 0x79 1 0 0 true false false false (Orders UltraDeepPowerDown) ∷
-    row 0xAB 1 0 0 true false false true (Orders Resume) ∷
+    row 0xAB 1 0 0 false false false true (Orders Resume) ∷
     row 0xF0 2 0 0 true false true false (Orders Reset) ∷
     row 0x02 5 0 0 true true false false (Works Program) ∷
     row 0x81 4 0 0 true true false false (Works (Erase Page)) ∷

@@ -13,7 +13,7 @@ returns-3 : tie.Need-returns-3
 returns-3 c = rw (c .before .before .command2 .given .1, c .ordered .ensures)
 
 returns-4 : tie.Need-returns-4
-returns-4 c = rw (c .before .before .command3 .given .1, c .worked .ensures)
+returns-4 c = rw (c .before .before .command3 .given .1, c .carried .ensures)
 
 pub obeyed-spec : {M : Type 1} → statement M
 obeyed-spec =

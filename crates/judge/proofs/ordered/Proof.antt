@@ -16,10 +16,10 @@ returns-4 : tie.Need-returns-4
 returns-4 c = rw (c .before .before .enum-told4 .given .1, c .quiet4 .ensures, c .before .moved2 .ensures)
 
 returns-5 : tie.Need-returns-5
-returns-5 c = rw (c .before .enum-told5 .given .1, c .quiet5 .ensures)
+returns-5 c = rw (c .before .before .enum-told5 .given .1, c .quiet5 .ensures, c .before .moved3 .ensures)
 
 returns-6 : tie.Need-returns-6
-returns-6 c = rw (c .before .enum-told6 .given .1, c .reset .ensures)
+returns-6 c = rw (c .before .before .enum-told6 .given .1, c .quiet6 .ensures, c .before .reset .ensures)
 
 pub ordered-spec : {M : Type 1} → statement M
 ordered-spec =
@@ -39,7 +39,9 @@ ordered-spec =
     (λ c κs. search needs)
     (λ c. search needs)
     (λ c κs. search needs)
+    (λ c κs. search needs)
     (λ c. search needs)
+    (λ c κs. search needs)
     (λ c κs. search needs)
     returns
     returns-2
