@@ -13,7 +13,7 @@ use Rattle.face_words.specs.Words.{isLent, recordLent, isFlag, flagOf, memoryOf
 
 -- 1.3.0: a million for the first number, a thousand for the second
 abbrev pub version : ℕ
-version = 1004000
+version = 1005000
 
 -- a fresh record
 abbrev pub isFresh : ℕ → ℕ → ℕ → ℕ → Bool

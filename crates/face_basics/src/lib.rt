@@ -24,7 +24,7 @@ ghost use Rattle.face_basics.specs.Face as face;
 pub extern "C" fn oxterin_version() -> u64
     ensures { λ r. ⌜ r ≡ face.version ⌝ }
 {
-    1004000
+    1005000
 }
 
 // A fresh record, from BPL, BP0 and the OTP-used mark.

@@ -1,8 +1,9 @@
 // A frame for callers that have only numbers and memories: words that stand for nothing are answered with 255, and then nothing changes.
-use face_words::ANSWER;
+use face_words::FIRST_ANSWER;
 use face_words::RECORD;
 use face_words::UNREAD;
 use face_words::as_word;
+use face_words::cause_number;
 use face_words::device_of;
 use face_words::is_answer;
 use face_words::is_record;
@@ -41,8 +42,9 @@ pub fn reply(answered: Answer, device: &mut [u64], answer: &mut [u64]) -> u64
         outcome_number(outcome),
         answered.first as u64,
         answered.driven as u64,
+        cause_number(outcome),
     ];
-    write(true, answer, ANSWER, &numbers);
+    write(true, answer, FIRST_ANSWER, &numbers);
     let refusal = answered.refusal;
     as_word(refusal.number())
 }

@@ -18,7 +18,8 @@ use Rattle.part.specs.Frame.{Reply}
 abbrev pub isLent : ℕ → ℕ → ℕ → Bool
 isLent oldest all long = leb oldest long && leb long all
 
--- how many words the record has, the settings, the signals and the answer; and how many signals the oldest caller knows of
+-- how many words the record has, the settings, the signals and the answer; and how many signals, and words of an answer,
+-- the oldest caller knows of
 abbrev pub recordWords : ℕ
 recordWords = 7
 
@@ -32,7 +33,10 @@ abbrev pub firstSignals : ℕ
 firstSignals = 3
 
 abbrev pub answerWords : ℕ
-answerWords = 3
+answerWords = 4
+
+abbrev pub firstAnswer : ℕ
+firstAnswer = 3
 
 abbrev pub recordLent : ℕ → Bool
 recordLent long = isLent recordWords recordWords long
@@ -44,7 +48,7 @@ abbrev pub signalsLent : ℕ → Bool
 signalsLent long = isLent firstSignals signalsWords long
 
 abbrev pub answerLent : ℕ → Bool
-answerLent long = isLent answerWords answerWords long
+answerLent long = isLent firstAnswer answerWords long
 
 -- as many of the new words as are lent
 abbrev pub asLent : List ℕ → List ℕ → List ℕ
@@ -126,9 +130,19 @@ unfoldable pub outcomeNumber : String → ℕ
 unfolding placeOf
 outcomeNumber word = placeOf word ("nothing" ∷ "read" ∷ "control" ∷ "aborted" ∷ "begun" ∷ [])
 
--- the answer: the outcome, the first driven position, how many are driven
+-- and so is a cause, after none, in the request's order
+unfoldable pub causePlace : String → ℕ
+unfolding placeOf
+causePlace words =
+    placeOf words
+    ("none" ∷ "too few bits" ∷ "asleep" ∷ "busy" ∷ "unknown opcode" ∷ "latch clear" ∷
+    "reset not enabled or not confirmed" ∷ "off boundary" ∷ "incomplete" ∷ "protected" ∷ "locked" ∷ "already programmed" ∷
+    "already awake" ∷ [])
+
+-- the answer: the outcome, the first driven position, how many are driven, and the cause, of which the oldest caller
+-- knows nothing
 abbrev pub answerOf : Reply → List ℕ
-answerOf reply = outcomeNumber (reply .outcome) ∷ reply .first ∷ reply .driven ∷ []
+answerOf reply = outcomeNumber (reply .outcome) ∷ reply .first ∷ reply .driven ∷ causePlace (reply .cause) ∷ []
 
 -- 0, or 255 for words that stand for nothing
 abbrev pub numberIf : Bool → ℕ

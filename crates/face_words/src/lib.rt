@@ -3,6 +3,7 @@
 use calls::Signals;
 use device::Device;
 use device::Mode;
+use judge::Cause;
 use judge::Outcome;
 use memories::Memory;
 use settings::Settings;
@@ -11,7 +12,8 @@ ghost use mathlib.Core.Path.{_≡_};
 ghost use Prim.Native.Nat.{_≤_};
 ghost use lib.ListN.{length, getD};
 ghost use Rattle.part.specs.Words as part;
-ghost use Rattle.face_words.specs.Words.{isLent, answerLent, asLent, wordOf, modeNumber, modeOf, memoryOf, packed, isRecord, deviceOf, isSettings, settingsOf, isSignals, signalsOf, outcomeNumber, numberIf, writtenIf};
+ghost use Rattle.face_words.specs.Words.{isLent, answerLent, asLent, wordOf, modeNumber, modeOf, memoryOf, packed, isRecord, deviceOf, isSettings, settingsOf, isSignals, signalsOf, outcomeNumber, causePlace, numberIf, writtenIf};
+ghost use Rattle.judge.specs.Causes.{causeWords};
 
 // A byte as a word.
 pub fn as_word(byte: u8) -> u64
@@ -53,7 +55,8 @@ fn put(words: &mut [u64], new: &[u64])
 // The number that says that words stand for nothing.
 pub const UNREAD: u64 = 255;
 
-// How many words the record, the settings, the signals and the answer have, and how many signals the oldest caller lends.
+// How many words the record, the settings, the signals and the answer have, and how many signals and words of an answer
+// the oldest caller lends.
 pub const RECORD: usize = 7;
 
 pub const SETTINGS: usize = 8;
@@ -62,7 +65,9 @@ pub const SIGNALS: usize = 4;
 
 pub const FIRST_SIGNALS: usize = 3;
 
-pub const ANSWER: usize = 3;
+pub const ANSWER: usize = 4;
+
+pub const FIRST_ANSWER: usize = 3;
 
 // The new words take the place of the old ones, as far as these are lent, if what they come from is right and enough are lent.
 pub fn write(right: bool, words: &mut [u64], oldest: usize, new: &[u64]) -> u64
@@ -202,11 +207,11 @@ pub fn signals_of(words: &[u64]) -> Signals
     }
 }
 
-// Whether so many words may be lent for an answer.
+// Whether so many words may be lent for an answer; the oldest caller knows of no cause.
 pub fn is_answer(long: usize) -> bool
     ensures { λ r. ⌜ r ≡ answerLent long ⌝ }
 {
-    is_lent(ANSWER, ANSWER, long)
+    is_lent(FIRST_ANSWER, ANSWER, long)
 }
 
 // The outcome's place among the outcomes.
@@ -214,10 +219,30 @@ pub fn outcome_number(outcome: Outcome) -> u64
     ensures { λ r. ⌜ r ≡ outcomeNumber (part.wordOf outcome) ⌝ }
 {
     match outcome {
-        Outcome::Nothing => 0,
+        Outcome::Nothing(_) => 0,
         Outcome::Read => 1,
         Outcome::Control => 2,
-        Outcome::Aborted => 3,
+        Outcome::Aborted(_) => 3,
         Outcome::Begun => 4,
     }
+}
+
+// The cause that an outcome carries.
+fn cause_in(outcome: Outcome) -> Cause
+    ensures { λ r. ⌜ r ≡ part.causeIn outcome ⌝ }
+{
+    match outcome {
+        Outcome::Nothing(cause) => cause,
+        Outcome::Read => Cause::None,
+        Outcome::Control => Cause::None,
+        Outcome::Aborted(cause) => cause,
+        Outcome::Begun => Cause::None,
+    }
+}
+
+// Its place among the causes; 0 for none.
+pub fn cause_number(outcome: Outcome) -> u64
+    ensures { λ r. ⌜ r ≡ causePlace (causeWords (part.causeIn outcome)) ⌝ }
+{
+    as_word(cause_in(outcome).number())
 }

@@ -16,7 +16,7 @@ use Rattle.opcodes.specs.declared.Order.the-variants.{Enable, Disable, DeepPowe
 use Rattle.opcodes.specs.declared.Source.{Source}
 use Rattle.opcodes.specs.declared.Work.{Work}
 use Rattle.opcodes.specs.Rows.{rowOf}
-use Rattle.opcodes.specs.Kinds.{meansArray, worksOnArray}
+use Rattle.opcodes.specs.Kinds.{isUnlisted, meansArray, worksOnArray}
 use Rattle.opcodes.specs.Rule.{orderedWhileBusy}
 use Rattle.opcodes.proofs.Kept.{order-needs}
 use Rattle.device.specs.declared.Device.{Device}
@@ -29,7 +29,6 @@ use Rattle.settings.proofs.Durations.{none-longer}
 use Rattle.judge.specs.declared.Facts.{Facts}
 use Rattle.judge.specs.declared.Judged.{Judged}
 use Rattle.judge.specs.declared.Cause.{Cause}
-use Rattle.judge.specs.declared.Cause.the-variants.{UnknownOpcode}
 use Rattle.judge.specs.declared.Outcome.{Outcome}
 use Rattle.judge.specs.declared.Action.{Action}
 use Rattle.judge.specs.Begins.{changesArray, asksFor, lasts}
@@ -45,9 +44,12 @@ pub record Heard (d : Device) (f : Facts) : Type 0 where
   pub up : awake (d .mode) ≡ true
   pub answers : (f .busy && not (rowOf (f .code) .busy)) ≡ false
 
--- An answer is nothing, an abort, a waking from either sleep, or what the command of a heard frame gives.
-module _ (d : Device) (s : Settings) (f : Facts) (P : Judged → Type 0) (still : (cause : Cause) → P (nothing cause d))
-    (aborting : (cause : Cause) → P (aborted cause d)) (waking : ultraDeep (d .mode) ≡ true → P (control (woken d)))
+-- An answer is nothing or an abort for the first cause that holds, a waking from either sleep, or what the command of a
+-- heard frame gives.
+module _ (d : Device) (s : Settings) (f : Facts) (P : Judged → Type 0)
+    (still : isNone (causeOf (rowOf (f .code)) d f) ≡ false → P (nothing (causeOf (rowOf (f .code)) d f) d))
+    (aborting : isNone (causeOf (rowOf (f .code)) d f) ≡ false → P (aborted (causeOf (rowOf (f .code)) d f) d))
+    (waking : ultraDeep (d .mode) ≡ true → P (control (woken d)))
     (rousing : deep (d .mode) ≡ true → P (ordered Resume d))
     (reading : (source : Source) → rowOf (f .code) .command ≡ Reads source → P (read (rowOf (f .code)) source d f))
     (ordering : (order : Order) → rowOf (f .code) .command ≡ Orders order → Heard d f → P (ordered order d))
@@ -56,15 +58,15 @@ module _ (d : Device) (s : Settings) (f : Facts) (P : Judged → Type 0) (still 
   choice true x y p q = p refl
   choice false x y p q = q refl
 
-  of-command : (command : Command) → rowOf (f .code) .command ≡ command → Heard d f
-      → P (obeyed command (rowOf (f .code)) d s f)
-  of-command Unlisted e h = still UnknownOpcode
-  of-command (Reads source) e h = reading source e
-  of-command (Orders order) e h = ordering order e h
-  of-command (Works work) e h = carrying work e h
-
   heard : isNone (causeOf (rowOf (f .code)) d f) ≡ true → Heard d f
   heard n = record { up = up (rowOf (f .code)) d f n; answers = unhindered (rowOf (f .code)) d f n .1 .1 .0 }
+
+  of-command : (command : Command) → rowOf (f .code) .command ≡ command → isNone (causeOf (rowOf (f .code)) d f) ≡ true
+      → P (obeyed command (rowOf (f .code)) d s f)
+  of-command Unlisted e n = absurd (true≢false (sym (ap isUnlisted e) ∙ unhindered (rowOf (f .code)) d f n .1 .1 .1 .0))
+  of-command (Reads source) e n = reading source e
+  of-command (Orders order) e n = ordering order e (heard n)
+  of-command (Works work) e n = carrying work e (heard n)
 
   of-cause : P (ended (causeOf (rowOf (f .code)) d f) (rowOf (f .code)) d s f)
   unfolding ended
@@ -72,8 +74,8 @@ module _ (d : Device) (s : Settings) (f : Facts) (P : Judged → Type 0) (still 
       let r = rowOf (f .code) in
       let cause = causeOf r d f in
       choice (isNone cause) (obeyed (r .command) r d s f) (cond (drops cause r) (aborted cause d) (nothing cause d))
-      (λ n. of-command (r .command) refl (heard n))
-      (λ n. choice (drops cause r) (aborted cause d) (nothing cause d) (λ t. aborting cause) (λ t. still cause))
+      (of-command (r .command) refl)
+      (λ n. choice (drops cause r) (aborted cause d) (nothing cause d) (λ t. aborting n) (λ t. still n))
 
   pub each-answer : P (judged d s f)
   unfolding judged
@@ -98,10 +100,12 @@ module _ (d : Device) (s : Settings) (f : Facts) (P : Judged → Type 0)
   of-order Resume = quietly Outcome.Control (moved d Awake)
   of-order Reset = quietly Outcome.Control (reset d)
 
+  abbrev cause : Cause
+  cause = causeOf (rowOf (f .code)) d f
+
   pub each-kind : P (judged d s f)
   each-kind =
-      each-answer d s f P (λ cause. quietly (Outcome.Nothing cause) d) (λ cause. quietly (Outcome.Aborted cause) (dropped d))
-      (λ u. quietly Outcome.Control (woken d)) (λ e. quietly Outcome.Control (moved d Awake)) reading
+      each-answer d s f P (λ n. quietly (Outcome.Nothing cause) d) (λ n. quietly (Outcome.Aborted cause) (dropped d)) (λ u. quietly Outcome.Control (woken d)) (λ e. quietly Outcome.Control (moved d Awake)) reading
       (λ order e h. of-order order) (λ work e h. carrying work e)
 
 -- no position behind the frame's last one is driven
@@ -154,7 +158,7 @@ begun-by-work : (d : Device) (s : Settings) (f : Facts) (P : Judged → Type 0)
     → P (carried work d s f))
     → isBegun (judged d s f .outcome) ≡ true → P (judged d s f)
 begun-by-work d s f P of-work =
-    each-answer d s f (IfBegun P) (λ cause. none) (λ cause. none) (λ m. none) (λ m. none) (λ source e. none)
+    each-answer d s f (IfBegun P) (λ n. none) (λ n. none) (λ m. none) (λ m. none) (λ source e. none)
     (λ order e h. of-order order) (λ work e h. of-work work e)
   where
     none : {A : Type 0} → false ≡ true → A
@@ -219,7 +223,7 @@ found-idle d f b h = sym (and-true (f .busy)) ∙ rw b at (h .answers)
 pub stays-sound : (d : Device) (s : Settings) (f : Facts) → unsound d ≡ false → anyUnfair (s .ticks) ≡ false → (f .busy ≡ false → isBusy d ≡ false)
     → unsound (judged d s f .device) ≡ false
 stays-sound d s f u fair still =
-    each-answer d s f (λ (j : Judged). unsound (j .device) ≡ false) (λ cause. u) (λ cause. u) (λ m. awoken) (λ m. awoken)
+    each-answer d s f (λ (j : Judged). unsound (j .device) ≡ false) (λ n. u) (λ n. u) (λ m. awoken) (λ m. awoken)
     (λ source e. u) of-order (λ work e h. of-work work (h .up))
   where
     awoken : unsound (moved d Awake) ≡ false

@@ -163,10 +163,10 @@ fn is_begun(outcome: Outcome) -> bool
     ensures { λ r. ⌜ r ≡ eqt (wordOf outcome) "begun" ⌝ }
 {
     match outcome {
-        Outcome::Nothing => false,
+        Outcome::Nothing(_) => false,
         Outcome::Read => false,
         Outcome::Control => false,
-        Outcome::Aborted => false,
+        Outcome::Aborted(_) => false,
         Outcome::Begun => true,
     }
 }

@@ -52,8 +52,7 @@ module _ (code : ℕ) where
   order-needs order e =
       let spoken = and-eq-true-iff _ (eqb (row .bytes) (orderedBytes order)) .0 (and-eq-true-iff _ _ .0 (kept (Orders order) e) .0) in
       let heard = and-eq-true-iff _ (Bool·beq (row .busy) (orderedWhileBusy order)) .0 (spoken .0) in
-      let first = and-eq-true-iff (Bool·beq (row .boundary) (orderedOnBoundary order)) (not (row .latch)) .0 (heard .0) in
-      (
+      let first = and-eq-true-iff (Bool·beq (row .boundary) (orderedOnBoundary order)) (not (row .latch)) .0 (heard .0) in (
         same (row .boundary) _ (first .0),
         not-true (row .latch) (first .1),
         same (row .busy) _ (heard .1),

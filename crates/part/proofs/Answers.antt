@@ -1,4 +1,4 @@
--- The contract of a frame admits one answer, and no other: number and word tell the cases apart. Assumes nothing.
+-- The contract of a frame admits one answer, and no other: number and words tell the cases apart. Assumes nothing.
 use Prim.Native.Nat.{ℕ}
 use Prim.Native.String.{String}
 use mathlib.Core.Bool.{Bool, true, false, cond}
@@ -8,7 +8,12 @@ use borrow.Author.Tests.{eqb-true, ne-eqb}
 use lib.Dec.{eqb}
 use lib.Text.{eqt}
 use Rattle.device.specs.declared.Device.{Device}
+use Rattle.judge.specs.declared.Cause.{Cause}
+use Rattle.judge.specs.declared.Cause.the-variants.{None, TooFewBits, Asleep, Busy, UnknownOpcode, LatchClear}
+use Rattle.judge.specs.declared.Cause.the-variants.{ResetUnconfirmed, OffBoundary, Incomplete, Protected, Locked}
+use Rattle.judge.specs.declared.Cause.the-variants.{AlreadyProgrammed, AlreadyAwake}
 use Rattle.judge.specs.declared.Outcome.{Outcome}
+use Rattle.judge.specs.Causes.{causeWords}
 use Rattle.refusals.specs.declared.Refusal.{Refusal}
 use Rattle.calls.specs.declared.Lengths.{Lengths}
 use Rattle.numbers.proofs.Tells.{tells}
@@ -17,28 +22,70 @@ use Rattle.calls.specs.Refusal.{refusalOf}
 use Rattle.calls.proofs.Refused.{not-the-ledgers}
 use Rattle.operations.specs.declared.Range.{Range}
 use Rattle.part.specs.declared.Answer.{Answer}
-use Rattle.part.specs.Words.{wordOf}
+use Rattle.part.specs.Words.{wordOf, causeIn}
 use Rattle.part.specs.Frame.{Call, Lent, Reply, Result, lengthsOf, numberFor, judgedOf, coveredBy, answered, refused, replied, frame, replyOf, resultOf, refusing, Meets}
 
--- the outcome of a word
-outcomeOf : String → Outcome
-outcomeOf word =
-    cond (eqt word "nothing") Outcome.Nothing
+-- the cause of its words, and the outcome of its word with a cause
+causeFrom : String → Cause
+causeFrom words =
+    cond (eqt words "too few bits") TooFewBits
+    (cond (eqt words "asleep") Asleep
+    (cond (eqt words "busy") Busy
+    (cond (eqt words "unknown opcode") UnknownOpcode
+    (cond (eqt words "latch clear") LatchClear
+    (cond (eqt words "reset not enabled or not confirmed") ResetUnconfirmed
+    (cond (eqt words "off boundary") OffBoundary
+    (cond (eqt words "incomplete") Incomplete
+    (cond (eqt words "protected") Protected
+    (cond (eqt words "locked") Locked
+    (cond (eqt words "already programmed") AlreadyProgrammed
+    (cond (eqt words "already awake") AlreadyAwake
+    None)))))))))))
+
+outcomeFrom : String → Cause → Outcome
+outcomeFrom word cause =
+    cond (eqt word "nothing") (Outcome.Nothing cause)
     (cond (eqt word "read") Outcome.Read
     (cond (eqt word "control") Outcome.Control
-    (cond (eqt word "aborted") Outcome.Aborted
+    (cond (eqt word "aborted") (Outcome.Aborted cause)
     Outcome.Begun)))
 
-back : (o : Outcome) → outcomeOf (wordOf o) ≡ o
-unfolding outcomeOf
-back Outcome.Nothing = refl
-back Outcome.Read = refl
-back Outcome.Control = refl
-back Outcome.Aborted = refl
-back Outcome.Begun = refl
+cause-back : (cause : Cause) → causeFrom (causeWords cause) ≡ cause
+unfolding causeFrom
+cause-back None = refl
+cause-back TooFewBits = refl
+cause-back Asleep = refl
+cause-back Busy = refl
+cause-back UnknownOpcode = refl
+cause-back LatchClear = refl
+cause-back ResetUnconfirmed = refl
+cause-back OffBoundary = refl
+cause-back Incomplete = refl
+cause-back Protected = refl
+cause-back Locked = refl
+cause-back AlreadyProgrammed = refl
+cause-back AlreadyAwake = refl
 
-pub word-tells : (a b : Outcome) → wordOf a ≡ wordOf b → a ≡ b
-word-tells = tells wordOf outcomeOf back
+outcome-back : (o : Outcome) → outcomeFrom (wordOf o) (causeIn o) ≡ o
+unfolding outcomeFrom
+outcome-back (Outcome.Nothing cause) = refl
+outcome-back Outcome.Read = refl
+outcome-back Outcome.Control = refl
+outcome-back (Outcome.Aborted cause) = refl
+outcome-back Outcome.Begun = refl
+
+pub cause-tells : (a b : Cause) → causeWords a ≡ causeWords b → a ≡ b
+cause-tells = tells causeWords causeFrom cause-back
+
+words-tell : (a b : Outcome) → wordOf a ≡ wordOf b → causeWords (causeIn a) ≡ causeWords (causeIn b) → a ≡ b
+words-tell a b w c =
+    sym (outcome-back a) ∙
+    (ap (λ (word : String). outcomeFrom word (causeIn a)) w ∙
+    (ap (outcomeFrom (wordOf b)) (cause-tells (causeIn a) (causeIn b) c) ∙ outcome-back b))
+
+pub begun-tells : (o : Outcome) → wordOf o ≡ "begun" → o ≡ Outcome.Begun
+unfolding outcomeFrom
+begun-tells o e = sym (outcome-back o) ∙ ap (λ (word : String). outcomeFrom word (causeIn o)) e
 
 -- an answer made of its fields
 made : Refusal → Outcome → ℕ → ℕ → Range → Device → Answer
@@ -55,7 +102,7 @@ same-answer a b p q r s t u =
 -- an answer is told by its number and word
 pub same-reply : (a b : Answer) → replyOf a ≡ replyOf b → a ≡ b
 same-reply a b e =
-    same-answer a b (number-tells (a .refusal) (b .refusal) (ap (λ (r : Reply). r .refusal) e)) (word-tells (a .outcome) (b .outcome) (ap (λ (r : Reply). r .outcome) e))
+    same-answer a b (number-tells (a .refusal) (b .refusal) (ap (λ (r : Reply). r .refusal) e)) (words-tell (a .outcome) (b .outcome) (ap (λ (r : Reply). r .outcome) e) (ap (λ (r : Reply). r .cause) e))
     (ap (λ (r : Reply). r .first) e) (ap (λ (r : Reply). r .driven) e) (ap (λ (r : Reply). r .covered) e) (ap (λ (r : Reply). r .device) e)
 
 -- there is no other answer

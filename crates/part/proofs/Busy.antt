@@ -1,6 +1,6 @@
 -- The busy ticks that a call leaves are those that its outcome tells. Assumes nothing.
 use Prim.Native.Nat.{ℕ, _-_, _*_, _≤_}
-use mathlib.Core.Bool.{Bool, true, false, true≢false, false≢true, cond, not, _&&_, and-true, and-false, and-eq-true-iff}
+use mathlib.Core.Bool.{Bool, true, false, true≢false, false≢true, cond, _&&_, and-false}
 use mathlib.Core.Path.{_≡_, refl, sym, ap, subst, _∙_}
 use native.Mathlib.Nat.{sub-add-eq}
 use native.Mathlib.Omega.{arith}
@@ -13,8 +13,8 @@ use Rattle.opcodes.specs.declared.Order.{Order}
 use Rattle.opcodes.specs.declared.Order.the-variants.{Enable, Disable, DeepPowerDown, UltraDeepPowerDown, Resume, Reset}
 use Rattle.opcodes.specs.declared.Work.{Work}
 use Rattle.opcodes.specs.Rows.{rowOf}
-use Rattle.opcodes.specs.Rule.{ruleOf}
-use Rattle.opcodes.proofs.Table.{rule-kept}
+use Rattle.opcodes.specs.Kinds.{isReset}
+use Rattle.opcodes.proofs.Kept.{work-needs}
 use Rattle.device.specs.declared.Device.{Device}
 use Rattle.device.specs.declared.Mode.{Mode}
 use Rattle.device.specs.declared.Mode.the-variants.{Awake, Deep, UltraDeep}
@@ -22,15 +22,15 @@ use Rattle.settings.specs.declared.Settings.{Settings}
 use Rattle.judge.specs.declared.Facts.{Facts}
 use Rattle.judge.specs.declared.Judged.{Judged}
 use Rattle.judge.specs.declared.Outcome.{Outcome}
-use Rattle.device.specs.Device.{awake, deep, ultraDeep, reset}
-use Rattle.judge.specs.Judging.{nothing, control, ordered, carried, judged}
-use Rattle.judge.proofs.Leaves.{Heard, each-answer, full-duration}
+use Rattle.device.specs.Device.{awake, deep, ultraDeep}
+use Rattle.judge.specs.Judging.{ordered, carried, judged}
+use Rattle.judge.proofs.Leaves.{Heard, each-answer, full-duration, found-idle}
 use Rattle.calls.specs.declared.Lengths.{Lengths}
 use Rattle.calls.specs.Refusal.{bytesFor}
 use Rattle.part.specs.Words.{wordOf}
 use Rattle.part.specs.Frame.{Call, numberFor, risen, factsOf, judgedOf, coveredBy, answered, refused, replied}
-use Rattle.part.specs.Busy.{isReset, resets, busyAfter}
-use Rattle.part.proofs.Answers.{word-tells, refusal-is}
+use Rattle.part.specs.Busy.{resets, busyAfter}
+use Rattle.part.proofs.Answers.{begun-tells, refusal-is}
 
 -- an operation is begun by a part that was idle at the first bit; whatever else is answered leaves the ticks at the rise, but a reset none
 abbrev Kept : Device → Facts → Judged → Type 0
@@ -68,28 +68,16 @@ module _ (d : Device) (s : Settings) (f : Facts) where
   ultra-sleeps Deep e = refl
   ultra-sleeps UltraDeep e = refl
 
-  of-order : (order : Order) → command ≡ Orders order → Heard d f → Kept d f (ordered order d f)
+  of-order : (order : Order) → command ≡ Orders order → Heard d f → Kept d f (ordered order d)
   of-order Enable e h = (none, λ n. other (ap isReset e))
   of-order Disable e h = (none, λ n. other (ap isReset e))
   of-order DeepPowerDown e h = (none, λ n. other (ap isReset e))
   of-order UltraDeepPowerDown e h = (none, λ n. other (ap isReset e))
-  of-order Resume e h = (none, λ n. uncontrolled)
-  of-order Reset e h = by (d .rste && eqb (f .second) 0xD0)
-    where
-      by : (b : Bool) → Kept d f (cond b (control (reset d)) (nothing d))
-      by true = (none, λ n. rw (h .up, e))
-      by false = (none, λ n. uncontrolled)
+  of-order Resume e h = (none, λ n. other (ap isReset e))
+  of-order Reset e h = (none, λ n. rw (h .up, e))
 
   idle-work : (work : Work) → command ≡ Works work → Heard d f → f .busy ≡ false
-  idle-work work e h =
-      let r = rowOf (f .code) in
-      let kept : ruleOf (Works work) r ≡ true = subst (λ (c : Command). ruleOf c r ≡ true) e (rule-kept (f .code)) in
-      let ignored = and-eq-true-iff (r .boundary && r .latch) (not (r .busy)) .0 (and-eq-true-iff _ (eqb (r .most) 0) .0 kept .0) .1 in
-      by (r .busy) ignored (h .answers)
-    where
-      by : (b : Bool) → not b ≡ true → (f .busy && not b) ≡ false → f .busy ≡ false
-      by true n a = none n
-      by false n a = sym (and-true (f .busy)) ∙ a
+  idle-work work e h = found-idle d f (work-needs (f .code) work e .2) h
 
   of-work : (work : Work) → command ≡ Works work → Heard d f → Kept d f (carried work d s f)
   of-work Work.Program e h = (λ c. idle-work Work.Program e h, λ n. absurd (true≢false n))
@@ -100,12 +88,12 @@ module _ (d : Device) (s : Settings) (f : Facts) where
 
   kept : Kept d f (judged d s f)
   kept =
-      each-answer d s f (Kept d f) (none, λ n. uncontrolled) (λ u. (none, λ n. asleep (ultra-sleeps (d .mode) u)))
-      (λ e. (none, λ n. asleep (deep-sleeps (d .mode) e))) (none, λ n. uncontrolled) (λ source e. (none, λ n. uncontrolled)) of-order
-      (λ work e h b. of-work work e h)
+      each-answer d s f (Kept d f) (λ some. (none, λ n. uncontrolled)) (λ some. (none, λ n. uncontrolled))
+      (λ u. (none, λ n. asleep (ultra-sleeps (d .mode) u))) (λ e. (none, λ n. asleep (deep-sleeps (d .mode) e)))
+      (λ source e. (none, λ n. uncontrolled)) of-order of-work
 
 is-begun : (o : Outcome) → eqt (wordOf o) "begun" ≡ true → o ≡ Outcome.Begun
-is-begun o e = word-tells o Outcome.Begun (eqt→eq (wordOf o) "begun" (subst T (sym e) tt))
+is-begun o e = begun-tells o (eqt→eq (wordOf o) "begun" (subst T (sym e) tt))
 
 module _ (c : Call) (lengths : Lengths) where
   -- a frame begins an operation only if no busy tick was left at its first bit

@@ -13,14 +13,15 @@ use Rattle.cells.proofs.Places.{each-same}
 use Rattle.opcodes.specs.Rows.{rowOf}
 use Rattle.judge.specs.declared.Action.{Action}
 use Rattle.judge.specs.declared.Outcome.{Outcome}
-use Rattle.judge.specs.Begins.{changesArray, meansArray, ready, lasts}
+use Rattle.opcodes.specs.Kinds.{meansArray}
+use Rattle.judge.specs.Begins.{changesArray, ready, lasts}
 use Rattle.judge.proofs.Begins.{exactly-when}
 use Rattle.judge.proofs.Leaves.{as-asked, begun-acts, full-duration}
 use Rattle.part.specs.Words.{wordOf}
 use Rattle.operations.specs.Operations.{cellOf, onArray}
 use Rattle.part.specs.Frame.{Call, Lent, lengthsOf, numberFor, risen, factsOf, judgedOf, coveredBy, answered, refused, replied, frame}
 use Rattle.part.specs.Effect.{takesEffect, operationOf}
-use Rattle.part.proofs.Answers.{word-tells}
+use Rattle.part.proofs.Answers.{begun-tells}
 
 module _ (c : Call) (m : Lent) where
   -- judging begins an operation on the array when the frame is ready
@@ -77,7 +78,7 @@ module _ (c : Call) (m : Lent) where
           → (b && ready (risen c) (factsOf c)) ≡ true
       by true e =
           sym begins ∙
-          begun-acts (risen c) (c .settings) (factsOf c) (word-tells (judgedOf c .outcome) Outcome.Begun e) means
+          begun-acts (risen c) (c .settings) (factsOf c) (begun-tells (judgedOf c .outcome) e) means
       by false e = absurd (true≢false (ap (λ (w : String). eqt w "nothing") e))
 
   -- what is begun, on whatever memory, takes its full duration from the rise on: neither the ticks elapsed nor the frame's come off it
@@ -92,5 +93,5 @@ module _ (c : Call) (m : Lent) where
           → cond b (answered (judgedOf c) (coveredBy (judgedOf c) c (lengthsOf c m)))
           (refused (numberFor c (lengthsOf c m)) (c .device)) .outcome ≡ "begun"
           → cond b (answered (judgedOf c) (coveredBy (judgedOf c) c (lengthsOf c m))) (refused (numberFor c (lengthsOf c m)) (c .device)) .device .busy ≡ lasts-for
-      by true e = full-duration (risen c) (c .settings) (factsOf c) (word-tells (judgedOf c .outcome) Outcome.Begun e)
+      by true e = full-duration (risen c) (c .settings) (factsOf c) (begun-tells (judgedOf c .outcome) e)
       by false e = absurd (true≢false (ap (λ (w : String). eqt w "nothing") e))

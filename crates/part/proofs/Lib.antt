@@ -1,5 +1,6 @@
 pub mod Frames
 pub mod Answers
+pub mod Causes
 pub mod Effects
 pub mod Covered
 pub mod Busy

@@ -7,6 +7,7 @@ use Rattle.part.specs.Frame.{Call, Lent, lengthsOf, numberFor, refused, 
 use Rattle.part.specs.Promises.{Promises}
 use Rattle.part.proofs.Answers.{one-answer, answerOf, some-answer, refusal-is, not-accepted}
 use Rattle.part.proofs.Effects.{only-then, changed-then, then-always, begun-took-effect, begun-lasts}
+use Rattle.part.proofs.Causes.{no-cause-exactly, first-cause, none-exactly, nothing-else-moved}
 use Rattle.part.proofs.Busy.{busy-is}
 use Rattle.part.proofs.Covered.{outside-stays, empty-exactly}
 use Rattle.part.proofs.Frozen.{takes-no-time}
@@ -33,6 +34,10 @@ promises =
       changed-then = changed-then;
       then-always = then-always;
       begun-took-effect = begun-took-effect;
+      no-cause-exactly = no-cause-exactly;
+      first-cause = first-cause;
+      none-exactly = none-exactly;
+      nothing-else-moved = nothing-else-moved;
       begun-lasts = begun-lasts;
       busy-is = λ c m. busy-is c (lengthsOf c m);
       outside-stays = outside-stays;

@@ -1,11 +1,8 @@
 -- What a call does to the busy ticks, told from its outcome: for those who stand above the part. Assumes nothing.
 use Prim.Native.Nat.{ℕ, _+_, _*_, _-_}
-use mathlib.Core.Bool.{Bool, true, false, cond, _&&_}
+use mathlib.Core.Bool.{Bool, cond, _&&_}
 use lib.Text.{eqt}
-use Rattle.opcodes.specs.declared.Command.{Command}
-use Rattle.opcodes.specs.declared.Command.the-variants.{Unlisted, Reads, Orders, Works}
-use Rattle.opcodes.specs.declared.Order.{Order}
-use Rattle.opcodes.specs.declared.Order.the-variants.{Enable, Disable, DeepPowerDown, UltraDeepPowerDown, Resume, Reset}
+use Rattle.opcodes.specs.Kinds.{isReset}
 use Rattle.opcodes.specs.Rows.{rowOf}
 use Rattle.judge.specs.Begins.{lasts}
 use Rattle.device.specs.Device.{awake}
@@ -16,21 +13,6 @@ use Rattle.part.specs.Frame.{Call, Reply, factsOf}
 -- the ticks of a call: those elapsed, and those of the frame, a partial last byte position too
 abbrev pub ticksOf : Signals → ℕ
 ticksOf signals = signals .elapsed + bytesFor (signals .bits) * signals .pace
-
-abbrev resetting : Order → Bool
-resetting Enable = false
-resetting Disable = false
-resetting DeepPowerDown = false
-resetting UltraDeepPowerDown = false
-resetting Resume = false
-resetting Reset = true
-
--- the opcode is that of a reset
-abbrev pub isReset : Command → Bool
-isReset Unlisted = false
-isReset (Reads source) = false
-isReset (Orders order) = resetting order
-isReset (Works work) = false
 
 -- a reset was carried out: its opcode was answered with control, by a part that was awake
 abbrev pub resets : Call → Reply → Bool

@@ -13,8 +13,10 @@ use Rattle.device.specs.declared.Device.{Device}
 use Rattle.settings.specs.declared.Settings.{Settings}
 use Rattle.judge.specs.declared.Facts.{Facts}
 use Rattle.judge.specs.declared.Judged.{Judged}
+use Rattle.judge.specs.declared.Cause.the-variants.{None}
 use Rattle.judge.specs.declared.Outcome.{Outcome}
 use Rattle.device.specs.Device.{isBusy, passed}
+use Rattle.judge.specs.Causes.{causeWords}
 use Rattle.judge.specs.Judging.{judged}
 use Rattle.calls.specs.declared.Lengths.{Lengths}
 use Rattle.refusals.specs.declared.Refusal.{Refusal}
@@ -23,7 +25,7 @@ use Rattle.calls.specs.Address.{addressOf}
 use Rattle.calls.specs.Refusal.{bytesFor, refusalOf}
 use Rattle.calls.specs.declared.Signals.{Signals}
 use Rattle.part.specs.declared.Answer.{Answer}
-use Rattle.part.specs.Words.{wordOf}
+use Rattle.part.specs.Words.{wordOf, causeIn}
 use Rattle.output.specs.Time.{standing}
 use Rattle.operations.specs.declared.Range.{Range}
 use Rattle.operations.specs.Operations.{cellOf, onArray, onRegister, nowhere, rangeOf}
@@ -49,10 +51,11 @@ pub record Lent : Type 0 where
 abbrev pub lent : List ℕ → List ℕ → List ℕ → Lent
 lent array register output = record { array = array; register = register; output = output }
 
--- what comes back, by the paper's number and word, with the range of the array that the call covered
+-- what comes back, by the papers' number and words, with the range of the array that the call covered
 pub record Reply : Type 0 where
   pub refusal : ℕ
   pub outcome : String
+  pub cause : String
   pub first : ℕ
   pub driven : ℕ
   pub covered : Range
@@ -119,6 +122,7 @@ answered j covered =
     record {
       refusal = 0;
       outcome = wordOf (j .outcome);
+      cause = causeWords (causeIn (j .outcome));
       first = j .first;
       driven = j .driven;
       covered = covered;
@@ -126,10 +130,18 @@ answered j covered =
           = j .device;
     }
 
--- and from a refused one: its number, the record untouched, nothing driven, nothing covered
+-- and from a refused one: its number, the record untouched, no cause, nothing driven, nothing covered
 abbrev pub refused : ℕ → Device → Reply
 refused number d =
-    record { refusal = number; outcome = "nothing"; first = 0; driven = 0; covered = nowhere; device = d }
+    record {
+      refusal = number;
+      outcome = "nothing";
+      cause = "none";
+      first = 0;
+      driven = 0;
+      covered = nowhere;
+      device = d;
+    }
 
 -- from a call that somebody above the part turns away, for a refusal of their own: the part's comes first
 abbrev pub turnedAway : ℕ → Call → Lent → Reply
@@ -175,12 +187,13 @@ frame c m =
       lent = cond (eqb (numberFor c (lengthsOf c m)) 0) (lentAfter c m) m;
     }
 
--- an answer of the code, by the paper's number and word
+-- an answer of the code, by the papers' number and words
 abbrev pub replyOf : Answer → Reply
 replyOf a =
     record {
       refusal = numberOf (a .refusal);
       outcome = wordOf (a .outcome);
+      cause = causeWords (causeIn (a .outcome));
       first = a .first;
       driven = a .driven;
       covered = a .covered;
@@ -192,7 +205,14 @@ resultOf a m = record { reply = replyOf a; lent = m }
 
 abbrev pub refusing : Refusal → Device → Answer
 refusing refusal d =
-    record { refusal = refusal; outcome = Outcome.Nothing; first = 0; driven = 0; covered = nowhere; device = d }
+    record {
+      refusal = refusal;
+      outcome = Outcome.Nothing None;
+      first = 0;
+      driven = 0;
+      covered = nowhere;
+      device = d;
+    }
 
 -- the contract of a call: its answer and what it leaves of the lent memories are the frame's
 abbrev pub Meets : Call → Lent → Answer → Lent → Type 0

@@ -1,20 +1,25 @@
 -- Demands 1 and 2, sentence by sentence: what holds of any call. To read it: c is a call, m and n are lent memories, a
 -- is an answer, k is a place of the array. Assumes nothing.
 use Prim.Native.Nat.{ℕ}
-use mathlib.Core.Bool.{true, false}
+use mathlib.Core.Bool.{true, false, not, _&&_}
 use mathlib.Core.Logic.{_≢_}
 use mathlib.Core.Path.{_≡_}
-use lib.Dec.{ltb}
+use lib.Dec.{ltb, eqb}
 use lib.ListN.{getD}
+use lib.Text.{eqt}
 use Rattle.cells.specs.Each.{each}
 use Rattle.cells.specs.Range.{range}
 use Rattle.opcodes.specs.Rows.{rowOf}
-use Rattle.judge.specs.Begins.{meansArray}
+use Rattle.opcodes.specs.Kinds.{meansArray}
+use Rattle.judge.specs.Causes.{causeWords, isNone, causes, IsFirst}
+use Rattle.judge.specs.Bare.{uncaused, bare}
 use Rattle.refusals.specs.Refusals.{numberOf}
 use Rattle.calls.specs.Refusal.{refusalOf}
 use Rattle.operations.specs.Operations.{cellOf}
 use Rattle.part.specs.declared.Answer.{Answer}
-use Rattle.part.specs.Frame.{Call, Lent, lengthsOf, factsOf, refused, replied, frame, Meets}
+use Rattle.part.specs.Frame.{Call, Lent, lengthsOf, numberFor, risen, factsOf, judgedOf, refused, replied, frame}
+use Rattle.part.specs.Frame.{Meets}
+use Rattle.part.specs.Cause.{isStopped, holdsOf, causeFor}
 use Rattle.part.specs.Effect.{takesEffect, operationOf}
 use Rattle.part.specs.Busy.{lastsFor, busyAfter}
 use Rattle.part.specs.Frozen.{frozen}
@@ -46,6 +51,19 @@ pub record Promises : Type 0 where
   pub begun-took-effect : (c : Call) (m : Lent) → meansArray (rowOf (factsOf c .code) .command) ≡ true
       → frame c m .reply .outcome ≡ "begun"
       → takesEffect c (lengthsOf c m) ≡ true
+  -- That is exactly when the call is accepted, its frame is a program or an erase of the array, and no cause holds.
+  pub no-cause-exactly : (c : Call) (m : Lent) → takesEffect c (lengthsOf c m)
+      ≡ (eqb (numberFor c (lengthsOf c m)) 0 && (isNone (causeFor c) && meansArray (rowOf (factsOf c .code) .command)))
+  -- An accepted call of which nothing comes, or which is aborted, has one cause: the first of the request's list that
+  -- holds.
+  pub first-cause : (c : Call) (m : Lent) → frame c m .reply .refusal ≡ 0 → isStopped (frame c m .reply) ≡ true
+      → (frame c m .reply .cause ≡ causeWords (causeFor c)) × IsFirst (holdsOf c) causes (causeFor c)
+  -- A refused call has none, nor has a read, a control or what is begun; every other has one.
+  pub none-exactly : (c : Call) (m : Lent) → eqt (frame c m .reply .cause) "none"
+      ≡ not (eqb (frame c m .reply .refusal) 0 && isStopped (frame c m .reply))
+  -- With the causes struck out an accepted call is judged as it was before there were any.
+  pub nothing-else-moved : (c : Call) (m : Lent) → frame c m .reply .refusal ≡ 0
+      → uncaused (judgedOf c) ≡ bare (risen c) (c .settings) (factsOf c)
   -- What is begun, on whatever memory, takes its full duration from the rise on.
   pub begun-lasts : (c : Call) (m : Lent) → frame c m .reply .outcome ≡ "begun" → frame c m .reply .device .busy
       ≡ lastsFor c

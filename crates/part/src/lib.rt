@@ -6,6 +6,7 @@ use calls::byte_at;
 use calls::bytes_for;
 use calls::refusal_of;
 use device::Device;
+use judge::Cause;
 use judge::Facts;
 use judge::Outcome;
 use judge::judge;
@@ -21,7 +22,7 @@ ghost use Rattle.refusals.specs.Refusals.{numberOf};
 ghost use Rattle.calls.specs.Refusal.{bytesFor};
 ghost use Rattle.part.specs.Frame as spec;
 
-// Why the call was refused, its outcome, the first driven position, how many are driven, the range of the array that it
+// Why the call was refused, its outcome with its cause, the first driven position, how many are driven, the range of the array that it
 // covered, and the record as it then stands.
 pub struct Answer {
     pub refusal: Refusal,
@@ -61,7 +62,7 @@ pub fn refused(refusal: Refusal, device: Device) -> Answer
 {
     Answer {
         refusal,
-        outcome: Outcome::Nothing,
+        outcome: Outcome::Nothing(Cause::None),
         first: 0,
         driven: 0,
         covered: nowhere(),

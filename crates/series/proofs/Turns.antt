@@ -16,7 +16,8 @@ use Rattle.opcodes.specs.declared.Work.{Work}
 use Rattle.opcodes.specs.Rows.{rowOf}
 use Rattle.device.specs.declared.Device.{Device}
 use Rattle.judge.specs.declared.Facts.{Facts}
-use Rattle.judge.specs.Begins.{asksFor, meansArray, ready}
+use Rattle.opcodes.specs.Kinds.{meansArray}
+use Rattle.judge.specs.Begins.{asksFor, ready}
 use Rattle.device.specs.Device.{awake, unsound}
 use Rattle.judge.proofs.Begins.{exactly-when}
 use Rattle.judge.proofs.Leaves.{as-asked, stays-sound}

@@ -5,13 +5,21 @@ use Rattle.face_frame.proofs.reply.Statement.{statement}
 use Rattle.face_frame.proofs.reply.Tie as tie
 
 returns : tie.Need-returns
-returns c = (
-  c .as-word .ensures ∙ c .before .number .ensures,
-  (
-    rw (c .before .before .before .before .before .before .before .before .before .before .write .ensures .1, c .before .before .before .before .before .before .before .before .before .before .before .before .before .pack .ensures),
-    rw (c .before .before .before .before .write2 .ensures .1, c .before .before .before .before .before .before .before .outcome-number .ensures),
-  ),
-)
+returns c =
+    let written = c .before .before .before .before in
+    let numbered = written .before .before .before in
+    let recorded = numbered .before .before .before .before in
+    (
+      c .as-word .ensures ∙ c .before .number .ensures,
+      (
+        rw (recorded .write .ensures .1, recorded .before .before .before .pack .ensures),
+        rw (
+          written .write2 .ensures .1,
+          numbered .before .outcome-number .ensures,
+          numbered .cause-number .ensures,
+        ),
+      ),
+    )
 
 pub reply-spec : {M : Type 1} → statement M
 reply-spec =
@@ -19,6 +27,7 @@ reply-spec =
     (tie.spec
     (λ c κs. search needs)
     (λ c. search needs)
+    (λ c κs. search needs)
     (λ c κs. search needs)
     (λ c κs. search needs)
     (λ c. search needs)
