@@ -37,7 +37,7 @@ extern "C" {
 #endif
 
 /* The version of this header; oxterin_version() is the library's. A million for the first number, a thousand for the second. */
-#define OXTERIN_VERSION 1004000
+#define OXTERIN_VERSION 1005000
 
 /* Lengths in bytes. */
 #define OXTERIN_ARRAY 131072u      /* the AT25XE011's own array */
@@ -148,10 +148,29 @@ typedef enum {
     OXTERIN_BEGUN = 4    /* an operation took effect */
 } oxterin_outcome;
 
+/* Why nothing came of an accepted frame, or why it was aborted: where several hold, the first of this list. Read, control and begun have
+ * none, and neither has a refused call. Later versions may know more. */
+typedef enum {
+    OXTERIN_NO_CAUSE = 0,
+    OXTERIN_TOO_FEW_BITS = 1,        /* fewer than 8 bits: no opcode */
+    OXTERIN_ASLEEP = 2,              /* in deep power-down, and the frame is not ABh on a byte boundary */
+    OXTERIN_BUSY = 3,                /* an operation was running at the first bit, and the opcode is neither 05h nor F0h */
+    OXTERIN_UNKNOWN_OPCODE = 4,      /* the part has no such opcode */
+    OXTERIN_LATCH_CLEAR = 5,         /* the command needs WEL, and WEL is 0: send 06h before it */
+    OXTERIN_RESET_UNCONFIRMED = 6,   /* F0h with RSTE 0, with another second byte than D0h, or with fewer than 16 bits */
+    OXTERIN_OFF_BOUNDARY = 7,        /* the command needs a bit count divisible by 8 */
+    OXTERIN_INCOMPLETE = 8,          /* the command needs more bytes */
+    OXTERIN_PROTECTED = 9,           /* a program or an erase of the array while BP0 is 1 */
+    OXTERIN_LOCKED = 10,             /* 01h while BPL is 1 and WP is low */
+    OXTERIN_ALREADY_PROGRAMMED = 11, /* 9Bh, and the one-time-programmable bytes were programmed before */
+    OXTERIN_ALREADY_AWAKE = 12       /* ABh, and the part is awake */
+} oxterin_cause;
+
 typedef struct {
     oxterin_outcome outcome;
-    size_t first;  /* the first driven position; 0 if none is driven */
-    size_t driven; /* how many positions are driven */
+    size_t first;        /* the first driven position; 0 if none is driven */
+    size_t driven;       /* how many positions are driven */
+    oxterin_cause cause; /* why nothing came of the frame, or why it was aborted */
 } oxterin_answer;
 
 /* The two memories, for a look. */
@@ -166,11 +185,12 @@ typedef struct {
 /* The library's own functions, on words. The functions further below are easier to use.
  *
  * A record is 7 words (BPL, BP0, WEL, RSTE, OTP used, mode, busy ticks), the settings are 8, the signals 4 (bits, WP, ticks elapsed, ticks
- * per byte position), an answer 3 (outcome, first, driven), a status 2 bytes, the place of a look 2 (start, length), the running part of a
- * ledger 2 (account, ticks billed), an account's line 3 (total, most, number), the characters and the place of HEX 1. Signals of 3 words,
- * without the last, are accepted too, from callers built for version 1.1.0, and mean 0 ticks per byte position. Another length, a flag that
- * is neither 0 nor 1, or a mode or memory that does not exist is answered with 255, and then nothing has changed. The totals, most and
- * numbers of a ledger always have OXTERIN_ACCOUNTS words each. No pointer may be null. */
+ * per byte position), an answer 4 (outcome, first, driven, cause), a status 2 bytes, the place of a look 2 (start, length), the running
+ * part of a ledger 2 (account, ticks billed), an account's line 3 (total, most, number), the characters and the place of HEX 1. Signals of
+ * 3 words, without the last, are accepted too, from callers built for version 1.1.0, and mean 0 ticks per byte position; so is an answer of
+ * 3, from callers built for versions up to 1.4.0, who are told no cause. Another length, a flag that is neither 0 nor 1, or a mode or
+ * memory that does not exist is answered with 255, and then nothing has changed. The totals, most and numbers of a ledger always have
+ * OXTERIN_ACCOUNTS words each. No pointer may be null. */
 uint64_t oxterin_version(void);
 uint64_t oxterin_fresh(uint64_t bpl, uint64_t bp0, uint64_t otp_used, uint64_t *record, size_t record_length);
 uint64_t oxterin_typical(uint64_t *settings, size_t settings_length);
@@ -303,11 +323,12 @@ static inline oxterin_part oxterin_look_at(const uint8_t *array, size_t array_le
 }
 
 /* What a frame's number and words stand for. The record is taken over if the frame was accepted. */
-static inline oxterin_refusal oxterin_take_answer(uint64_t number, const uint64_t device[7], const uint64_t told[3],
+static inline oxterin_refusal oxterin_take_answer(uint64_t number, const uint64_t device[7], const uint64_t told[4],
                                                   oxterin_record *record, oxterin_answer *answer) {
     answer->outcome = (oxterin_outcome)told[0];
     answer->first = (size_t)told[1];
     answer->driven = (size_t)told[2];
+    answer->cause = (oxterin_cause)told[3];
     if (number == 0) {
         *record = oxterin_unpack_record(device);
     }
@@ -315,7 +336,8 @@ static inline oxterin_refusal oxterin_take_answer(uint64_t number, const uint64_
 }
 
 /* One chip-select frame. The record becomes what the part then remembers, and of the output the first input_length bytes are written.
- * The answer says what became of the frame. After a refused call it says nothing, 0 and 0, and all else is as it was.
+ * The answer says what became of the frame, and if nothing did, or it was aborted, why. After a refused call it says nothing, no cause, 0
+ * and 0, and all else is as it was.
  *
  * Position k, counted from 0, begins k * ticks_per_byte ticks after the frame's first bit, and a status byte of 05h says what busy is at that
  * moment. Whether the part is too busy to hear the frame is settled at the frame's first bit, and an operation that the frame begins starts
@@ -327,7 +349,7 @@ static inline oxterin_refusal oxterin_send_frame(oxterin_record *record, const o
     uint64_t device[7];
     uint64_t durations[8];
     uint64_t levels[4];
-    uint64_t told[3] = {0, 0, 0};
+    uint64_t told[4] = {0, 0, 0, 0};
     uint64_t number;
     oxterin_pack_record(record, device);
     oxterin_pack_settings(settings, durations);
@@ -336,7 +358,7 @@ static inline oxterin_refusal oxterin_send_frame(oxterin_record *record, const o
                            oxterin_length_of(array, array_length), security ? security : oxterin_nowhere(),
                            oxterin_length_of(security, security_length), input ? input : oxterin_nowhere(),
                            oxterin_length_of(input, input_length), output ? output : oxterin_nowhere(),
-                           oxterin_length_of(output, output_length), told, 3);
+                           oxterin_length_of(output, output_length), told, 4);
     return oxterin_take_answer(number, device, told, record, answer);
 }
 
@@ -363,7 +385,7 @@ static inline oxterin_refusal oxterin_send_frame_for(uint64_t account, oxterin_l
     uint64_t device[7];
     uint64_t durations[8];
     uint64_t levels[4];
-    uint64_t told[3] = {0, 0, 0};
+    uint64_t told[4] = {0, 0, 0, 0};
     uint64_t running[2];
     uint64_t number;
     oxterin_pack_record(record, device);
@@ -375,7 +397,7 @@ static inline oxterin_refusal oxterin_send_frame_for(uint64_t account, oxterin_l
                                   oxterin_length_of(array, array_length), security ? security : oxterin_nowhere(),
                                   oxterin_length_of(security, security_length), input ? input : oxterin_nowhere(),
                                   oxterin_length_of(input, input_length), output ? output : oxterin_nowhere(),
-                                  oxterin_length_of(output, output_length), told, 3, account, running, 2, ledger->totals,
+                                  oxterin_length_of(output, output_length), told, 4, account, running, 2, ledger->totals,
                                   ledger->most, ledger->numbers);
     ledger->running.account = running[0];
     ledger->running.billed = running[1];

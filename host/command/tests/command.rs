@@ -213,7 +213,7 @@ fn help_and_version() {
     }
     let version = oxterin(&["--version"], "");
     assert!(
-        said(&version).starts_with("oxterin 1.4.0\nproved library 1.4.0, built for "),
+        said(&version).starts_with("oxterin 1.5.0\nproved library 1.5.0, built for "),
         "{}",
         said(&version)
     );

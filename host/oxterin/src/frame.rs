@@ -1,4 +1,5 @@
 //! One call, one chip-select frame, on memories that the caller lends; and a look at them without a frame.
+use crate::cause::Cause;
 use crate::raw;
 use crate::record::{Record, Settings};
 use std::error::Error;
@@ -190,6 +191,8 @@ impl fmt::Display for Outcome {
 pub struct Answer {
     /// What became of the frame.
     pub outcome: Outcome,
+    /// Why nothing came of it, or why it was aborted. With any other outcome there is none.
+    pub cause: Option<Cause>,
     /// The first driven position; 0 if none is driven.
     pub first: usize,
     /// How many positions are driven.
@@ -242,6 +245,7 @@ pub(crate) fn on_words(record: &mut Record, call: impl FnOnce(&mut [u64], &mut [
     *record = Record::of_words(&words);
     Ok(Answer {
         outcome: Outcome::ALL[answer[0] as usize],
+        cause: Cause::of_number(answer[3]),
         first: answer[1] as usize,
         driven: answer[2] as usize,
     })

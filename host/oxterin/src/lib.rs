@@ -41,6 +41,7 @@
 //! ```
 #![deny(unsafe_code)]
 
+mod cause;
 mod frame;
 mod hex;
 mod ledger;
@@ -48,6 +49,7 @@ mod part;
 pub mod raw;
 mod record;
 
+pub use cause::Cause;
 pub use frame::{frame, look, Answer, Memory, Outcome, Refusal, Signals};
 pub use hex::{hex_read, hex_text, hex_write, HexError, HexRefusal};
 pub use ledger::{frame_for, Ledger, Line, Running};
@@ -57,7 +59,7 @@ pub use record::{Mode, Record, Settings};
 /// How the proved library in this program was built: for which machine, and by which way.
 pub const BUILT: &str = env!("OXTERIN_BUILT");
 
-/// The version of the proved face, such as `1.4.0`.
+/// The version of the proved face, such as `1.5.0`.
 #[must_use]
 pub fn version() -> String {
     let number = raw::version();

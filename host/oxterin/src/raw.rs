@@ -1,8 +1,8 @@
 //! The face itself: words and bytes, and a number back. The one module with `unsafe` in it.
 //!
 //! Each function takes slices of any length. A slice of words that has another length than the one stated, a flag that is neither 0 nor
-//! 1, or an unknown mode or memory is answered with [`UNREAD`], and then nothing has changed. The signals alone may have one word less:
-//! [`SIGNALS`]. The three tables of a ledger always have [`ACCOUNTS`] words.
+//! 1, or an unknown mode or memory is answered with [`UNREAD`], and then nothing has changed. Signals and answer alone may have one word
+//! less: [`SIGNALS`], [`ANSWER`]. The three tables of a ledger always have [`ACCOUNTS`] words.
 #![allow(unsafe_code)]
 
 /// The number that says that words stand for nothing.
@@ -14,8 +14,9 @@ pub const SETTINGS: usize = 8;
 /// The words of a frame's signals: bits clocked, WP's level, ticks elapsed, ticks per byte position. Without the last, as version 1.1.0 had
 /// them, they mean 0 ticks per byte position.
 pub const SIGNALS: usize = 4;
-/// The words of an answer: outcome, first driven position, how many are driven.
-pub const ANSWER: usize = 3;
+/// The words of an answer: outcome, first driven position, how many are driven, cause (0 if there is none). Versions up to 1.4.0 had it
+/// without the last.
+pub const ANSWER: usize = 4;
 /// The words of a status: byte 1, byte 2.
 pub const STATUS: usize = 2;
 /// The words of a look: where it begins, how many bytes it has.
