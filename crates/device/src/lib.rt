@@ -16,7 +16,7 @@ pub enum Mode {
 
 impl Mode {
     // Not asleep.
-    pub fn is_awake(self) -> bool
+    pub(crate) fn is_awake(self) -> bool
         ensures { λ r. ⌜ r ≡ awake self ⌝ }
     {
         match self {

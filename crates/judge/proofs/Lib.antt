@@ -1,4 +1,5 @@
 pub mod Causes
 pub mod Leaves
 pub mod Begins
+mod Steps
 pub mod Bare

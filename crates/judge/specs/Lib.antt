@@ -1,4 +1,5 @@
 pub mod Causes
 pub mod Judging
+pub mod Steps
 pub mod Bare
 pub mod Begins

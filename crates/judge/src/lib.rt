@@ -10,10 +10,10 @@ use opcodes::Source;
 use opcodes::Work;
 use settings::Kind;
 use settings::Settings;
-ghost use mathlib.Core.Bool.{cond};
 ghost use mathlib.Core.Path.{_≡_};
 ghost use Rattle.judge.specs.Causes as causes;
 ghost use Rattle.judge.specs.Judging as judging;
+ghost use Rattle.judge.specs.Steps as steps;
 
 // What is known of a frame without its data: the opcode, the second byte, the address, the number of bytes, the bits
 // clocked, whether WP is high, and whether the part was busy at the frame's first bit.
@@ -63,27 +63,6 @@ impl Cause {
             Cause::Locked => 10,
             Cause::AlreadyProgrammed => 11,
             Cause::AlreadyAwake => 12,
-        }
-    }
-
-    // Whether a frame with this cause drops the latch, which its command needed and had.
-    fn drops(self, row: Row) -> bool
-        ensures { λ r. ⌜ r ≡ causes.drops self row ⌝ }
-    {
-        match self {
-            Cause::None => false,
-            Cause::TooFewBits => false,
-            Cause::Asleep => false,
-            Cause::Busy => false,
-            Cause::UnknownOpcode => false,
-            Cause::LatchClear => false,
-            Cause::ResetUnconfirmed => false,
-            Cause::OffBoundary => row.latch,
-            Cause::Incomplete => row.latch,
-            Cause::Protected => true,
-            Cause::Locked => true,
-            Cause::AlreadyProgrammed => true,
-            Cause::AlreadyAwake => false,
         }
     }
 }
@@ -255,78 +234,168 @@ fn carried(work: Work, device: Device, settings: Settings, facts: Facts) -> Judg
     }
 }
 
-// A command is carried out.
-fn obeyed(row: Row, device: Device, settings: Settings, facts: Facts) -> Judged
-    ensures { λ r. ⌜ r ≡ judging.obeyed (row .command) row device settings facts ⌝ }
+// Nothing comes of the frame, for this cause.
+fn nothing(cause: Cause, device: Device) -> Judged
+    ensures { λ r. ⌜ r ≡ judging.nothing cause device ⌝ }
 {
-    let command = row.command;
-    match command {
-        Command::Unlisted => quiet(Outcome::Nothing(Cause::UnknownOpcode), device),
-        Command::Reads(source) => read(row, source, device, facts),
-        Command::Orders(order) => ordered(order, device),
-        Command::Works(work) => carried(work, device, settings, facts),
-    }
+    quiet(Outcome::Nothing(cause), device)
 }
 
-// A cause that holds comes before the rest of the list.
-fn first(holds: bool, cause: Cause, rest: Cause) -> Cause
-    ensures { λ r. ⌜ r ≡ cond holds cause rest ⌝ }
+// The latch drops, and there is no operation, for this cause.
+fn aborted(cause: Cause, device: Device) -> Judged
+    ensures { λ r. ⌜ r ≡ judging.aborted cause device ⌝ }
 {
-    if holds { cause } else { rest }
+    quiet(Outcome::Aborted(cause), device.dropped())
+}
+
+// Whether a frame has fewer bytes than its row needs.
+fn is_incomplete(row: Row, facts: Facts) -> bool
+    ensures { λ r. ⌜ r ≡ steps.incomplete row facts ⌝ }
+{
+    facts.bytes < row.bytes as usize
+}
+
+// A read, which needs no boundary.
+fn reading(source: Source, row: Row, device: Device, facts: Facts) -> Judged
+    ensures { λ r. ⌜ r ≡ steps.reading source row device facts ⌝ }
+{
+    if is_incomplete(row, facts) {
+        return nothing(Cause::Incomplete, device);
+    }
+    read(row, source, device, facts)
+}
+
+// A control command that needs a boundary.
+fn bounded(order: Order, row: Row, device: Device, facts: Facts) -> Judged
+    ensures { λ r. ⌜ r ≡ steps.bounded order row device facts ⌝ }
+{
+    if on_boundary(facts) {
+        if is_incomplete(row, facts) {
+            return nothing(Cause::Incomplete, device);
+        }
+        return ordered(order, device);
+    }
+    nothing(Cause::OffBoundary, device)
+}
+
+// A resume, which finds the part awake.
+fn resumed(row: Row, device: Device, facts: Facts) -> Judged
+    ensures { λ r. ⌜ r ≡ steps.ordering Order.Resume row device facts ⌝ }
+{
+    if is_incomplete(row, facts) {
+        return nothing(Cause::Incomplete, device);
+    }
+    nothing(Cause::AlreadyAwake, device)
 }
 
 // Whether a reset is enabled, and confirmed by a second byte that was clocked whole.
-fn confirmed(device: Device, facts: Facts) -> bool
+fn is_confirmed(device: Device, facts: Facts) -> bool
     ensures { λ r. ⌜ r ≡ causes.confirmed device facts ⌝ }
 {
     device.rste & ((facts.second == 0xD0) & (16 <= facts.bits))
 }
 
-// Why a command is not carried out: the first cause of the request's list that holds. The list is made from its end on.
-fn cause_of(row: Row, device: Device, facts: Facts) -> Cause
-    ensures { λ r. ⌜ r ≡ causes.causeOf row device facts ⌝ }
+// A reset.
+fn reset(row: Row, device: Device, facts: Facts) -> Judged
+    ensures { λ r. ⌜ r ≡ steps.ordering Order.Reset row device facts ⌝ }
 {
-    let mode = device.mode;
+    if is_confirmed(device, facts) {
+        return bounded(Order::Reset, row, device, facts);
+    }
+    nothing(Cause::ResetUnconfirmed, device)
+}
+
+// A control command.
+fn ordering(order: Order, row: Row, device: Device, facts: Facts) -> Judged
+    ensures { λ r. ⌜ r ≡ steps.ordering order row device facts ⌝ }
+{
+    match order {
+        Order::Enable => bounded(Order::Enable, row, device, facts),
+        Order::Disable => bounded(Order::Disable, row, device, facts),
+        Order::DeepPowerDown => bounded(Order::DeepPowerDown, row, device, facts),
+        Order::UltraDeepPowerDown => bounded(Order::UltraDeepPowerDown, row, device, facts),
+        Order::Resume => resumed(row, device, facts),
+        Order::Reset => reset(row, device, facts),
+    }
+}
+
+// What may bar a command that needs the latch.
+fn bar(work: Work) -> Cause
+    ensures { λ r. ⌜ r ≡ steps.bar work ⌝ }
+{
+    match work {
+        Work::Program => Cause::Protected,
+        Work::Erase(_) => Cause::Protected,
+        Work::Otp => Cause::AlreadyProgrammed,
+        Work::WriteStatus => Cause::Locked,
+        Work::WriteStatusTwo => Cause::None,
+    }
+}
+
+// Whether protection, the OTP-used mark or the locked status bars it.
+fn barred(work: Work, device: Device, facts: Facts) -> bool
+    ensures { λ r. ⌜ r ≡ steps.barred work device facts ⌝ }
+{
+    match work {
+        Work::Program => device.bp0,
+        Work::Erase(_) => device.bp0,
+        Work::Otp => device.used,
+        Work::WriteStatus => device.bpl & !facts.wp,
+        Work::WriteStatusTwo => false,
+    }
+}
+
+// A command that needs the latch, has it and is on a boundary: carried out or aborted.
+fn tried(work: Work, row: Row, device: Device, settings: Settings, facts: Facts) -> Judged
+    ensures { λ r. ⌜ r ≡ steps.tried work row device settings facts ⌝ }
+{
+    if is_incomplete(row, facts) {
+        return aborted(Cause::Incomplete, device);
+    }
+    if barred(work, device, facts) {
+        return aborted(bar(work), device);
+    }
+    carried(work, device, settings, facts)
+}
+
+// A command that needs the latch.
+fn working(work: Work, row: Row, device: Device, settings: Settings, facts: Facts) -> Judged
+    ensures { λ r. ⌜ r ≡ steps.working work row device settings facts ⌝ }
+{
+    if !device.wel {
+        return nothing(Cause::LatchClear, device);
+    }
+    if on_boundary(facts) {
+        return tried(work, row, device, settings, facts);
+    }
+    aborted(Cause::OffBoundary, device)
+}
+
+// By opcode, an awake part that hears the frame.
+fn by_opcode(row: Row, device: Device, settings: Settings, facts: Facts) -> Judged
+    ensures { λ r. ⌜ r ≡ steps.byOpcode (row .command) row device settings facts ⌝ }
+{
     let command = row.command;
-    let used = device.used;
-    let locked = device.bpl & !facts.wp;
-    let reset = confirmed(device, facts);
-    let rest = first(row.asleep, Cause::AlreadyAwake, Cause::None);
-    let rest = first(command.is_otp() & used, Cause::AlreadyProgrammed, rest);
-    let rest = first(command.is_status() & locked, Cause::Locked, rest);
-    let rest = first(command.is_on_array() & device.bp0, Cause::Protected, rest);
-    let rest = first(facts.bytes < row.bytes as usize, Cause::Incomplete, rest);
-    let rest = first(row.boundary & !on_boundary(facts), Cause::OffBoundary, rest);
-    let rest = first(command.is_reset() & !reset, Cause::ResetUnconfirmed, rest);
-    let rest = first(row.latch & !device.wel, Cause::LatchClear, rest);
-    let rest = first(command.is_unlisted(), Cause::UnknownOpcode, rest);
-    let rest = first(facts.busy & !row.busy, Cause::Busy, rest);
-    let rest = first(!mode.is_awake(), Cause::Asleep, rest);
-    first(facts.bits < 8, Cause::TooFewBits, rest)
-}
-
-// By its cause: carried out without one, else aborted if the latch drops, else nothing.
-fn ended(cause: Cause, row: Row, device: Device, settings: Settings, facts: Facts) -> Judged
-    ensures { λ r. ⌜ r ≡ judging.ended cause row device settings facts ⌝ }
-{
-    if cause.number() == 0 {
-        return obeyed(row, device, settings, facts);
+    match command {
+        Command::Unlisted => nothing(Cause::UnknownOpcode, device),
+        Command::Reads(source) => reading(source, row, device, facts),
+        Command::Orders(order) => ordering(order, row, device, facts),
+        Command::Works(work) => working(work, row, device, settings, facts),
     }
-    if cause.drops(row) {
-        return quiet(Outcome::Aborted(cause), device.dropped());
-    }
-    quiet(Outcome::Nothing(cause), device)
 }
 
-// Whether the frame wakes a part in deep power-down: the row that says so, on a boundary, which is ABh.
-fn wakes(row: Row, device: Device, facts: Facts) -> bool
-    ensures { λ r. ⌜ r ≡ judging.wakes row device facts ⌝ }
+// In deep power-down only the row that says so is heard, on a boundary: ABh.
+fn asleep(row: Row, device: Device, facts: Facts) -> Judged
+    ensures { λ r. ⌜ r ≡ steps.asleep row device facts ⌝ }
 {
-    let mode = device.mode;
-    mode.is_deep() & (!(facts.bits < 8) & (row.asleep & on_boundary(facts)))
+    if row.asleep & on_boundary(facts) {
+        return ordered(Order::Resume, device);
+    }
+    nothing(Cause::Asleep, device)
 }
 
-// What wakes the part comes first; all else goes by the list of causes, and by opcode if none holds.
+// A frame goes by the first cause of the request's list that holds, and by its opcode if none does. The five steps of
+// document 01 find it: each opcode knows some of the causes.
 pub fn judge(device: Device, settings: Settings, facts: Facts) -> Judged
     ensures { λ r. ⌜ r ≡ judging.judged device settings facts ⌝ }
 {
@@ -334,9 +403,15 @@ pub fn judge(device: Device, settings: Settings, facts: Facts) -> Judged
     if mode.is_ultra_deep() {
         return quiet(Outcome::Control, device.woken());
     }
-    let row = opcodes::row_of(facts.code);
-    if wakes(row, device, facts) {
-        return ordered(Order::Resume, device);
+    if facts.bits < 8 {
+        return nothing(Cause::TooFewBits, device);
     }
-    ended(cause_of(row, device, facts), row, device, settings, facts)
+    if mode.is_deep() {
+        return asleep(opcodes::row_of(facts.code), device, facts);
+    }
+    let row = opcodes::row_of(facts.code);
+    if facts.busy & !row.busy {
+        return nothing(Cause::Busy, device);
+    }
+    by_opcode(row, device, settings, facts)
 }

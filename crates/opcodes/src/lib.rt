@@ -1,7 +1,6 @@
 // The opcodes of the AT25XE011: a row of fixed facts for each listed one, kept as a constant table, and looking one up.
 ghost use mathlib.Core.Path.{_≡_};
 ghost use Rattle.opcodes.specs.Commands.{commandOf};
-ghost use Rattle.opcodes.specs.Kinds.{isUnlisted, isReset, meansArray, meansStatus, meansOnce};
 ghost use Rattle.opcodes.specs.Rows.{rowOf};
 
 // Where a read takes the bytes that it drives: the array, the security register, the status bytes, the device's
@@ -47,93 +46,6 @@ pub enum Command {
     Reads(Source),
     Orders(Order),
     Works(Work),
-}
-
-impl Command {
-    // An opcode that is not listed.
-    pub fn is_unlisted(self) -> bool
-        ensures { λ r. ⌜ r ≡ isUnlisted self ⌝ }
-    {
-        match self {
-            Command::Unlisted => true,
-            Command::Reads(_) => false,
-            Command::Orders(_) => false,
-            Command::Works(_) => false,
-        }
-    }
-
-    // F0h.
-    pub fn is_reset(self) -> bool
-        ensures { λ r. ⌜ r ≡ isReset self ⌝ }
-    {
-        match self {
-            Command::Unlisted => false,
-            Command::Reads(_) => false,
-            Command::Orders(order) => match order {
-                Order::Enable => false,
-                Order::Disable => false,
-                Order::DeepPowerDown => false,
-                Order::UltraDeepPowerDown => false,
-                Order::Resume => false,
-                Order::Reset => true,
-            },
-            Command::Works(_) => false,
-        }
-    }
-
-    // A program or an erase of the array.
-    pub fn is_on_array(self) -> bool
-        ensures { λ r. ⌜ r ≡ meansArray self ⌝ }
-    {
-        match self {
-            Command::Unlisted => false,
-            Command::Reads(_) => false,
-            Command::Orders(_) => false,
-            Command::Works(work) => match work {
-                Work::Program => true,
-                Work::Erase(_) => true,
-                Work::Otp => false,
-                Work::WriteStatus => false,
-                Work::WriteStatusTwo => false,
-            },
-        }
-    }
-
-    // 01h.
-    pub fn is_status(self) -> bool
-        ensures { λ r. ⌜ r ≡ meansStatus self ⌝ }
-    {
-        match self {
-            Command::Unlisted => false,
-            Command::Reads(_) => false,
-            Command::Orders(_) => false,
-            Command::Works(work) => match work {
-                Work::Program => false,
-                Work::Erase(_) => false,
-                Work::Otp => false,
-                Work::WriteStatus => true,
-                Work::WriteStatusTwo => false,
-            },
-        }
-    }
-
-    // 9Bh.
-    pub fn is_otp(self) -> bool
-        ensures { λ r. ⌜ r ≡ meansOnce self ⌝ }
-    {
-        match self {
-            Command::Unlisted => false,
-            Command::Reads(_) => false,
-            Command::Orders(_) => false,
-            Command::Works(work) => match work {
-                Work::Program => false,
-                Work::Erase(_) => false,
-                Work::Otp => true,
-                Work::WriteStatus => false,
-                Work::WriteStatusTwo => false,
-            },
-        }
-    }
 }
 
 // The fixed facts of an opcode: the fewest bytes that it needs, the first position that a read drives and the most that

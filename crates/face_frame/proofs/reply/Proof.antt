@@ -8,8 +8,7 @@ returns : tie.Need-returns
 returns c =
     let written = c .before .before .before .before in
     let numbered = written .before .before .before in
-    let recorded = numbered .before .before .before .before in
-    (
+    let recorded = numbered .before .before .before .before in (
       c .as-word .ensures ∙ c .before .number .ensures,
       (
         rw (recorded .write .ensures .1, recorded .before .before .before .pack .ensures),

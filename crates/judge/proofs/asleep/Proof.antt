@@ -1,0 +1,22 @@
+-- `judge::asleep` meets its contract. Assumes nothing.
+use borrow.Author.Needs.{needs}
+use Rattle.judge.proofs.asleep.Statement.{statement}
+use Rattle.judge.proofs.asleep.Tie as tie
+
+returns : tie.Need-returns
+returns c =
+    rw (rw (c .before .before .before .on-boundary .ensures) at (c .before .if1 .taken), c .ordered .ensures)
+
+returns-2 : tie.Need-returns-2
+returns-2 c =
+    rw (rw (c .before .before .before .on-boundary .ensures) at (c .before .if1 .left), c .nothing .ensures)
+
+pub asleep-spec : {M : Type 1} → statement M
+asleep-spec =
+    tie.close
+    (tie.spec
+    (λ c κs. search needs)
+    (λ c κs. search needs)
+    returns
+    (λ c κs. search needs)
+    returns-2)
