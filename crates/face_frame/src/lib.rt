@@ -1,5 +1,4 @@
 // A frame for callers that have only numbers and memories: words that stand for nothing are answered with 255, and then nothing changes.
-use face_words::FIRST_ANSWER;
 use face_words::RECORD;
 use face_words::UNREAD;
 use face_words::as_word;
@@ -13,6 +12,7 @@ use face_words::outcome_number;
 use face_words::pack;
 use face_words::settings_of;
 use face_words::signals_of;
+use face_words::tell;
 use face_words::write;
 use part::Answer;
 use part::frame;
@@ -38,13 +38,13 @@ pub fn reply(answered: Answer, device: &mut [u64], answer: &mut [u64]) -> u64
     let words = pack(after);
     write(true, device, RECORD, &words);
     let outcome = answered.outcome;
-    let numbers = [
+    tell(
+        answer,
         outcome_number(outcome),
         answered.first as u64,
         answered.driven as u64,
         cause_number(outcome),
-    ];
-    write(true, answer, FIRST_ANSWER, &numbers);
+    );
     let refusal = answered.refusal;
     as_word(refusal.number())
 }

@@ -8,6 +8,7 @@ use judge::Outcome;
 use memories::Memory;
 use settings::Settings;
 ghost use mathlib.Core.Bool.{_&&_};
+ghost use mathlib.Core.List.{[], _∷_};
 ghost use mathlib.Core.Path.{_≡_};
 ghost use Prim.Native.Nat.{_≤_};
 ghost use lib.ListN.{length, getD};
@@ -212,6 +213,22 @@ pub fn is_answer(long: usize) -> bool
     ensures { λ r. ⌜ r ≡ answerLent long ⌝ }
 {
     is_lent(FIRST_ANSWER, ANSWER, long)
+}
+
+// The words of an answer, as far as they are lent. The lengths are apart because that is faster.
+pub fn tell(answer: &mut [u64], outcome: u64, first: u64, driven: u64, cause: u64)
+    ensures { λ _. ⌜
+        now (answer .exit) ≡
+        writtenIf (answerLent (length (now (answer .entry)))) (outcome ∷ first ∷ driven ∷ cause ∷ []) (now (answer .entry))
+        ⌝ }
+{
+    if answer.len() == ANSWER {
+        let all = [outcome, first, driven, cause];
+        write(true, answer, ANSWER, &all);
+    } else {
+        let older = [outcome, first, driven];
+        write(true, answer, FIRST_ANSWER, &older);
+    }
 }
 
 // The outcome's place among the outcomes.

@@ -6,17 +6,13 @@ use Rattle.face_frame.proofs.reply.Tie as tie
 
 returns : tie.Need-returns
 returns c =
-    let written = c .before .before .before .before in
-    let numbered = written .before .before .before in
-    let recorded = numbered .before .before .before .before in (
+    let told = c .before .before .before .before in
+    let numbered = told .before in
+    let recorded = numbered .before .before .before .before .before in (
       c .as-word .ensures ∙ c .before .number .ensures,
       (
         rw (recorded .write .ensures .1, recorded .before .before .before .pack .ensures),
-        rw (
-          written .write2 .ensures .1,
-          numbered .before .outcome-number .ensures,
-          numbered .cause-number .ensures,
-        ),
+        rw (told .tell .ensures, numbered .before .outcome-number .ensures, numbered .cause-number .ensures),
       ),
     )
 
@@ -29,7 +25,6 @@ reply-spec =
     (λ c κs. search needs)
     (λ c κs. search needs)
     (λ c κs. search needs)
-    (λ c. search needs)
     (λ c κs. search needs)
     (λ c κs. search needs)
     (λ c κs. search needs)
