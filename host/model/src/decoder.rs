@@ -1,6 +1,7 @@
 //! The opcode decoder: what each opcode asks for, and whether the part is in
 //! a state to hear it.
 
+use crate::cause::Cause;
 use crate::record::{Mode, Operation, Record};
 
 /// Manufacturer and device identification, as 9Fh shifts it out.
@@ -89,9 +90,16 @@ impl Command {
     }
 }
 
-/// The command a part in this state hears in an opcode, if any.
-pub(crate) fn decode(opcode: u8, record: &Record) -> Option<Command> {
-    listed(opcode).filter(|&command| is_heard(command, record))
+/// The command a part in this state hears in an opcode, or why it hears none.
+/// One in ultra-deep power-down hears none, but the frame will wake it.
+pub(crate) fn decode(opcode: u8, record: &Record) -> Result<Command, Cause> {
+    let command = listed(opcode);
+    match record.mode {
+        Mode::UltraDeep => Err(Cause::Asleep),
+        Mode::Deep => command.filter(|&command| is_heard_asleep(command)).ok_or(Cause::Asleep),
+        Mode::Awake if record.busy > 0 && !command.is_some_and(is_heard_busy) => Err(Cause::Busy),
+        Mode::Awake => admitted(command.ok_or(Cause::UnknownOpcode)?, record),
+    }
 }
 
 /// The command an opcode stands for, whatever the part's state.
@@ -127,23 +135,22 @@ fn erase(region: Region, operation: Operation) -> Command {
     Command::Change(Change::Erase(region, operation))
 }
 
-/// Whether a part in this state reacts to a command at all.
-fn is_heard(command: Command, record: &Record) -> bool {
-    let wakes = command == Command::Control(Control::Wake);
-    match record.mode {
-        Mode::UltraDeep => false,
-        Mode::Deep => wakes,
-        Mode::Awake => !wakes && is_admitted(command, record),
-    }
+/// Whether a command is heard in deep power-down.
+fn is_heard_asleep(command: Command) -> bool {
+    command == Command::Control(Control::Wake)
 }
 
-/// Whether an awake part's busy state, latch and reset enable admit a command.
-fn is_admitted(command: Command, record: &Record) -> bool {
-    let idle = record.busy == 0;
+/// Whether a command is heard while an operation runs.
+fn is_heard_busy(command: Command) -> bool {
+    matches!(command, Command::Read(Source::Status, _) | Command::Control(Control::Reset))
+}
+
+/// The command, if an awake part's latch and reset enable admit it, or why not.
+fn admitted(command: Command, record: &Record) -> Result<Command, Cause> {
     match command {
-        Command::Read(Source::Status, _) => true,
-        Command::Control(Control::Reset) => record.rste,
-        Command::Read(..) | Command::Control(_) => idle,
-        Command::Change(_) => idle && record.wel,
+        Command::Change(_) if !record.wel => Err(Cause::LatchClear),
+        Command::Control(Control::Reset) if !record.rste => Err(Cause::ResetNotReady),
+        Command::Control(Control::Wake) => Err(Cause::AlreadyAwake),
+        _ => Ok(command),
     }
 }

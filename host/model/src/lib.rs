@@ -5,7 +5,8 @@
 //! pass through the shift registers of `machine::Machine` one at a time, the
 //! busy ticks run down as the byte positions go by, and at the rise of chip
 //! select `rise::settle` turns what was gathered into changes of the record
-//! and of the two memories.
+//! and of the two memories. A frame without effect gets its [`Cause`], as
+//! request R-5 wants it.
 //!
 //! Above the frames, [`Books`] bill busy time to accounts, as request R-4 wants
 //! it.
@@ -15,6 +16,7 @@
 
 #![forbid(unsafe_code)]
 
+mod cause;
 mod decoder;
 mod hex;
 mod ledger;
@@ -25,6 +27,7 @@ mod refusals;
 mod rise;
 mod view;
 
+pub use cause::Cause;
 pub use hex::{hex_read, hex_write};
 pub use ledger::{Books, Running, Tables};
 use machine::Machine;
@@ -67,6 +70,8 @@ pub struct Answer {
     pub refusal: u8,
     /// What the frame amounted to.
     pub outcome: Outcome,
+    /// Why the frame of an accepted call amounted to nothing or was aborted.
+    pub cause: Option<Cause>,
     /// First output position the part drove, 0 if it drove none.
     pub first: usize,
     /// How many output positions the part drove.
@@ -81,6 +86,7 @@ impl Answer {
         Answer {
             refusal,
             outcome: Outcome::Nothing,
+            cause: None,
             first: 0,
             driven: 0,
             record,
@@ -114,10 +120,11 @@ pub fn frame(
     let gathered = machine.rise();
     let (first, driven) = (gathered.first, gathered.driven);
 
-    let (record, outcome) = rise::settle(gathered, settings, pins.wp_high, array, register);
+    let (record, outcome, cause) = rise::settle(gathered, settings, pins.wp_high, array, register);
     Answer {
         refusal,
         outcome,
+        cause,
         first,
         driven,
         record,

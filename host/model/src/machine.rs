@@ -2,6 +2,7 @@
 //! that moves on at byte boundaries. It only gathers; nothing changes here but
 //! the busy ticks, which run down as each byte position ends.
 
+use crate::cause::Cause;
 use crate::decoder::{decode, Change, Command, Control, Source};
 use crate::page::{PageBuffer, OTP_PLACES, PAGE};
 use crate::record::Record;
@@ -51,8 +52,8 @@ pub(crate) struct Machine<'a> {
     bits: u8,
     /// Whole bytes clocked.
     position: usize,
-    /// The command heard in the opcode, if any.
-    command: Option<Command>,
+    /// The command heard in the opcode, or why none is.
+    command: Result<Command, Cause>,
     /// Address sent, or 0, then counting up with each byte driven.
     address: usize,
     /// The program data so far.
@@ -69,15 +70,17 @@ pub(crate) struct Machine<'a> {
 pub(crate) struct Gathered {
     /// The record, the ticks of the whole frame gone by.
     pub(crate) record: Record,
-    /// The command heard, if any.
-    pub(crate) command: Option<Command>,
-    /// Chip select rose on a byte boundary with all needed bytes clocked in.
-    pub(crate) complete: bool,
+    /// The command heard, or why none was.
+    pub(crate) command: Result<Command, Cause>,
+    /// Chip select rose on a byte boundary.
+    pub(crate) on_boundary: bool,
+    /// All bytes that a control or changing command needs came in.
+    pub(crate) supplied: bool,
     /// The address of a changing command, all sent bits of it.
     pub(crate) address: usize,
     /// The program data.
     pub(crate) page: PageBuffer,
-    /// The byte after the opcode of a status write or reset.
+    /// The byte after the opcode of a status write or reset, 0 if none came.
     pub(crate) operand: u8,
     /// First position driven, 0 if none.
     pub(crate) first: usize,
@@ -100,7 +103,7 @@ impl<'a> Machine<'a> {
             shift_out: 0xFF,
             bits: 0,
             position: 0,
-            command: None,
+            command: Err(Cause::TooFewBits),
             address: 0,
             page: PageBuffer::aimed_at(0, PAGE),
             operand: 0,
@@ -136,7 +139,8 @@ impl<'a> Machine<'a> {
         Gathered {
             record: self.record,
             command: self.command,
-            complete: self.is_complete(),
+            on_boundary: self.bits == 0,
+            supplied: self.is_supplied(),
             address: self.address,
             page: self.page,
             operand: self.operand,
@@ -150,14 +154,13 @@ impl<'a> Machine<'a> {
         self.record = self.record.rested(self.ticks_per_byte);
     }
 
-    /// Whether a control or changing command has come to its end in order.
-    fn is_complete(&self) -> bool {
-        let supplied = match self.phase {
+    /// Whether all bytes that a control or changing command needs came in.
+    fn is_supplied(&self) -> bool {
+        match self.phase {
             Phase::Rest => true,
             Phase::Collect => self.page.sent() > 0,
             _ => false,
-        };
-        self.bits == 0 && supplied
+        }
     }
 
     /// At the first bit of a byte, loads the output register if the part
@@ -211,7 +214,7 @@ impl<'a> Machine<'a> {
     fn begin(&mut self, opcode: u8) -> Phase {
         self.command = decode(opcode, &self.record_at_fall);
         match self.command {
-            Some(command) if command.is_addressed() => Phase::Address(3),
+            Ok(command) if command.is_addressed() => Phase::Address(3),
             _ => self.filler_phase(),
         }
     }
@@ -237,11 +240,11 @@ impl<'a> Machine<'a> {
     /// The phase once opcode, address and fillers are in.
     fn data_phase(&mut self) -> Phase {
         match self.command {
-            Some(Command::Read(source, _)) => Phase::Drive(source),
-            Some(Command::Change(Change::Program)) => self.collect(PAGE),
-            Some(Command::Change(Change::OtpProgram)) => self.collect(OTP_PLACES),
-            Some(Command::Change(Change::Protection | Change::ResetEnable)) | Some(Command::Control(Control::Reset)) => Phase::Operand,
-            Some(Command::Change(Change::Erase(..)) | Command::Control(_)) | None => Phase::Rest,
+            Ok(Command::Read(source, _)) => Phase::Drive(source),
+            Ok(Command::Change(Change::Program)) => self.collect(PAGE),
+            Ok(Command::Change(Change::OtpProgram)) => self.collect(OTP_PLACES),
+            Ok(Command::Change(Change::Protection | Change::ResetEnable) | Command::Control(Control::Reset)) => Phase::Operand,
+            Ok(Command::Change(Change::Erase(..)) | Command::Control(_)) | Err(_) => Phase::Rest,
         }
     }
 

@@ -1,5 +1,6 @@
 //! What the rise of chip select does with what the machine gathered.
 
+use crate::cause::Cause;
 use crate::decoder::{Change, Command, Control, Region};
 use crate::machine::Gathered;
 use crate::page::{OTP_PLACES, PAGE};
@@ -19,19 +20,27 @@ const BP0_BIT: u8 = 1 << 2;
 /// The place of RSTE in the operand of a write of status byte 2.
 const RSTE_BIT: u8 = 1 << 4;
 
-/// Ends a frame: the record afterwards, the outcome, and the memory changes.
-pub(crate) fn settle(gathered: Gathered, settings: &Settings, wp_high: bool, array: &mut [u8], register: &mut [u8]) -> (Record, Outcome) {
+/// Ends a frame: the record afterwards, the outcome, the cause if there was no
+/// effect, and the memory changes.
+pub(crate) fn settle(
+    gathered: Gathered,
+    settings: &Settings,
+    wp_high: bool,
+    array: &mut [u8],
+    register: &mut [u8],
+) -> (Record, Outcome, Option<Cause>) {
     let record = gathered.record;
     if record.mode == Mode::UltraDeep {
-        return (roused(record), Outcome::Control);
+        return (roused(record), Outcome::Control, None);
     }
     match gathered.command {
-        None => (record, Outcome::Nothing),
-        Some(Command::Read(..)) => (record, Outcome::Read),
-        Some(Command::Control(control)) => {
-            obey(control, &gathered, record).map_or((record, Outcome::Nothing), |after| (after, Outcome::Control))
-        }
-        Some(Command::Change(change)) => {
+        Err(cause) => (record, Outcome::Nothing, Some(cause)),
+        Ok(Command::Read(..)) => (record, Outcome::Read, None),
+        Ok(Command::Control(control)) => match obey(control, &gathered, record) {
+            Ok(after) => (after, Outcome::Control, None),
+            Err(cause) => (record, Outcome::Nothing, Some(cause)),
+        },
+        Ok(Command::Change(change)) => {
             let spent = record.latched(false);
             let mut bench = Bench {
                 settings,
@@ -39,7 +48,10 @@ pub(crate) fn settle(gathered: Gathered, settings: &Settings, wp_high: bool, arr
                 array,
                 register,
             };
-            bench.attempt(change, &gathered, spent).unwrap_or((spent, Outcome::Aborted))
+            match bench.attempt(change, &gathered, spent) {
+                Ok((after, outcome)) => (after, outcome, None),
+                Err(cause) => (spent, Outcome::Aborted, Some(cause)),
+            }
         }
     }
 }
@@ -52,16 +64,16 @@ fn roused(record: Record) -> Record {
     }
 }
 
-/// The record after a control command, or none if it is not carried out.
-fn obey(control: Control, gathered: &Gathered, record: Record) -> Option<Record> {
-    if !gathered.complete {
-        return None;
-    }
+/// The record after a control command, or why it is not carried out.
+fn obey(control: Control, gathered: &Gathered, record: Record) -> Result<Record, Cause> {
     match control {
-        Control::Latch(level) => Some(record.latched(level)),
-        Control::Sleep(mode) => Some(record.in_mode(mode)),
-        Control::Wake => Some(record.in_mode(Mode::Awake)),
-        Control::Reset => (gathered.operand == RESET_KEY).then(|| record.occupied(0).latched(false)),
+        Control::Wake if !gathered.on_boundary => Err(Cause::Asleep),
+        Control::Reset if gathered.operand != RESET_KEY => Err(Cause::ResetNotReady),
+        _ if !gathered.on_boundary => Err(Cause::OffBoundary),
+        Control::Latch(level) => Ok(record.latched(level)),
+        Control::Sleep(mode) => Ok(record.in_mode(mode)),
+        Control::Wake => Ok(record.in_mode(Mode::Awake)),
+        Control::Reset => Ok(record.occupied(0).latched(false)),
     }
 }
 
@@ -79,64 +91,67 @@ struct Bench<'a> {
 
 impl Bench<'_> {
     /// Carries out a changing command on a record whose latch is already
-    /// spent, or gives none if it has to be aborted.
-    fn attempt(&mut self, change: Change, gathered: &Gathered, record: Record) -> Option<(Record, Outcome)> {
-        if !gathered.complete {
-            return None;
+    /// spent, or says why it has to be aborted.
+    fn attempt(&mut self, change: Change, gathered: &Gathered, record: Record) -> Result<(Record, Outcome), Cause> {
+        if !gathered.on_boundary {
+            return Err(Cause::OffBoundary);
+        }
+        if !gathered.supplied {
+            return Err(Cause::Incomplete);
         }
         match change {
             Change::Program => self.program(gathered, record),
             Change::Erase(region, operation) => self.erase(region, operation, gathered.address, record),
             Change::OtpProgram => self.program_otp(gathered, record),
             Change::Protection => self.write_protection(gathered.operand, record),
-            Change::ResetEnable => Some(enable_reset(gathered.operand, record)),
+            Change::ResetEnable => Ok(enable_reset(gathered.operand, record)),
         }
     }
 
     /// Burns the page buffer into the page of the address, unless protected.
-    fn program(&mut self, gathered: &Gathered, record: Record) -> Option<(Record, Outcome)> {
+    fn program(&mut self, gathered: &Gathered, record: Record) -> Result<(Record, Outcome), Cause> {
         if record.bp0 {
-            return None;
+            return Err(Cause::Protected);
         }
         let operation = match gathered.page.sent() {
             1 => Operation::OneByteProgram,
             _ => Operation::LongerProgram,
         };
         gathered.page.burn(self.block(gathered.address, PAGE));
-        Some(self.begun(record, operation))
+        Ok(self.begun(record, operation))
     }
 
     /// Sets a region to all 1s, unless protected.
-    fn erase(&mut self, region: Region, operation: Operation, address: usize, record: Record) -> Option<(Record, Outcome)> {
+    fn erase(&mut self, region: Region, operation: Operation, address: usize, record: Record) -> Result<(Record, Outcome), Cause> {
         if record.bp0 {
-            return None;
+            return Err(Cause::Protected);
         }
         match region {
             Region::Block(size) => self.block(address, size).fill(0xFF),
             Region::Chip => self.array.fill(0xFF),
         }
-        Some(self.begun(record, operation))
+        Ok(self.begun(record, operation))
     }
 
     /// Burns the page buffer into the user half of the register, one time.
-    fn program_otp(&mut self, gathered: &Gathered, record: Record) -> Option<(Record, Outcome)> {
+    fn program_otp(&mut self, gathered: &Gathered, record: Record) -> Result<(Record, Outcome), Cause> {
         if record.otp_used {
-            return None;
+            return Err(Cause::AlreadyProgrammed);
         }
         gathered.page.burn(&mut self.register[..OTP_PLACES]);
         let used = Record { otp_used: true, ..record };
-        Some(self.begun(used, Operation::OtpProgram))
+        Ok(self.begun(used, Operation::OtpProgram))
     }
 
     /// Writes status byte 1: a set BPL shields BP0, and with the pin low
     /// itself as well.
-    fn write_protection(&self, operand: u8, record: Record) -> Option<(Record, Outcome)> {
+    fn write_protection(&self, operand: u8, record: Record) -> Result<(Record, Outcome), Cause> {
         if record.bpl && !self.wp_high {
-            return None;
+            return Err(Cause::Locked);
         }
         let bp0 = if record.bpl { record.bp0 } else { operand & BP0_BIT != 0 };
         let bpl = operand & BPL_BIT != 0;
-        Some(self.begun(Record { bpl, bp0, ..record }, Operation::StatusWrite))
+        Ok(self.begun(Record { bpl, bp0, ..record }, Operation::StatusWrite))
     }
 
     /// The aligned block of that many array bytes around the address.

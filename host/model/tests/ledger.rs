@@ -140,6 +140,7 @@ impl Bench {
         let refused = Answer {
             refusal: number,
             outcome: Outcome::Nothing,
+            cause: None,
             first: 0,
             driven: 0,
             record: before.record,
