@@ -5,6 +5,23 @@ use std::fmt;
 /// The words for the five outcomes, in the order of their numbers.
 pub(crate) const OUTCOMES: [&str; 5] = ["nothing", "read", "control", "aborted", "begun"];
 
+/// Request R-5's words for the twelve causes, in the order of their numbers; number 0 is none.
+pub(crate) const CAUSES: [&str; 13] = [
+    "none",
+    "too few bits",
+    "asleep",
+    "busy",
+    "unknown opcode",
+    "latch clear",
+    "reset not enabled or not confirmed",
+    "off boundary",
+    "incomplete",
+    "protected",
+    "locked",
+    "already programmed",
+    "already awake",
+];
+
 /// The answer to a call, beside the lent bytes.
 #[derive(Clone, Copy, Debug, PartialEq, Eq)]
 pub struct Reply {
@@ -12,6 +29,8 @@ pub struct Reply {
     pub refusal: u64,
     /// The outcome's word.
     pub outcome: &'static str,
+    /// The cause's words, or `none`.
+    pub cause: &'static str,
     /// The first driven position.
     pub first: u64,
     /// How many positions are driven.
@@ -27,6 +46,7 @@ impl Reply {
         Reply {
             refusal,
             outcome: OUTCOMES[0],
+            cause: CAUSES[0],
             first: 0,
             driven: 0,
             record: words_of(record),
@@ -39,20 +59,31 @@ impl fmt::Display for Reply {
         let Reply {
             refusal,
             outcome,
+            cause,
             first,
             driven,
             record,
         } = self;
-        write!(f, "refusal {refusal}, {outcome}, driven {driven} from {first}, record {record:?}")
+        write!(
+            f,
+            "refusal {refusal}, {outcome}, cause {cause}, driven {driven} from {first}, record {record:?}"
+        )
     }
 }
 
 /// The word for an outcome's number.
-pub(crate) fn word(outcome: u64) -> &'static str {
-    usize::try_from(outcome)
-        .ok()
-        .and_then(|number| OUTCOMES.get(number))
-        .unwrap_or(&"an unknown outcome")
+pub(crate) fn outcome_word(number: u64) -> &'static str {
+    named(&OUTCOMES, number).unwrap_or("an unknown outcome")
+}
+
+/// The words for a cause's number.
+pub(crate) fn cause_words(number: u64) -> &'static str {
+    named(&CAUSES, number).unwrap_or("an unknown cause")
+}
+
+/// What a list has at this number.
+fn named(list: &[&'static str], number: u64) -> Option<&'static str> {
+    list.get(usize::try_from(number).ok()?).copied()
 }
 
 /// The words of a record, packed without the wrapper's help.
@@ -117,8 +148,25 @@ mod tests {
 
     #[test]
     fn an_outcome_past_the_last_has_no_word_of_theirs() {
-        assert_eq!(word(4), "begun");
-        assert!(!OUTCOMES.contains(&word(5)));
-        assert!(!OUTCOMES.contains(&word(u64::MAX)));
+        assert_eq!(outcome_word(4), "begun");
+        assert!(!OUTCOMES.contains(&outcome_word(5)));
+        assert!(!OUTCOMES.contains(&outcome_word(u64::MAX)));
+    }
+
+    #[test]
+    fn a_cause_past_the_last_has_no_words_of_theirs() {
+        assert_eq!((cause_words(0), cause_words(12)), ("none", "already awake"));
+        assert!(!CAUSES.contains(&cause_words(13)));
+        assert!(!CAUSES.contains(&cause_words(u64::MAX)));
+    }
+
+    #[test]
+    fn a_reply_says_its_cause() {
+        let reply = Reply {
+            cause: "latch clear",
+            ..Reply::refused(0, &Record::fresh(false, false, false))
+        };
+        let said = "refusal 0, nothing, cause latch clear, driven 0 from 0, record [0, 0, 0, 0, 0, 0, 0]";
+        assert_eq!(reply.to_string(), said);
     }
 }

@@ -1,7 +1,7 @@
 //! The three sides: the proved face by words, the wrapper over it, the model. Each has memories and an output buffer of its own.
 use crate::call::{Call, ARRAY_ROOM, GUARD, OUTPUT_ROOM, REGISTER_ROOM};
 use crate::ledger::Kept;
-use crate::reply::{word, words_of, Reply};
+use crate::reply::{cause_words, outcome_word, words_of, Reply, CAUSES};
 use oxterin::{raw, Ledger, Record, Settings, Signals};
 use std::panic::{catch_unwind, AssertUnwindSafe};
 
@@ -152,10 +152,11 @@ pub(crate) fn by_words(call: &Call, record: &Record, lent: Lent<'_>) -> Reply {
             &mut lent.ledger.numbers.words,
         ),
     };
-    let [outcome, first, driven] = answer;
+    let [outcome, first, driven, cause] = answer;
     Reply {
         refusal,
-        outcome: word(outcome),
+        outcome: outcome_word(outcome),
+        cause: cause_words(cause),
         first,
         driven,
         record: words,
@@ -208,6 +209,7 @@ pub(crate) fn by_wrapper(call: &Call, record: &Record, lent: Lent<'_>) -> Reply 
         Ok(answer) => Reply {
             refusal: 0,
             outcome: answer.outcome.word(),
+            cause: answer.cause.map_or(CAUSES[0], oxterin::Cause::words),
             first: answer.first as u64,
             driven: answer.driven as u64,
             record: words_of(&after),
@@ -265,6 +267,7 @@ pub(crate) fn by_model(call: &Call, record: &Record, lent: Lent<'_>) -> Reply {
     Reply {
         refusal: answer.refusal.into(),
         outcome: model_word(answer.outcome),
+        cause: answer.cause.map_or(CAUSES[0], model::Cause::words),
         first: answer.first as u64,
         driven: answer.driven as u64,
         record: model_words(&answer.record),

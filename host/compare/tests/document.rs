@@ -1,13 +1,14 @@
 //! Document 01's worked frames, limits, session and likely errors, its own values asserted on the proved part and on the model; and polls
 //! worked by hand.
 use compare::{model_word, model_words};
-use oxterin::{Outcome, Part, Signals, Size};
+use oxterin::{Answer, Cause, Outcome, Part, Signals, Size};
 
 /// What a frame gave.
 #[derive(Clone, Debug, PartialEq, Eq)]
 struct Seen {
     refusal: u8,
     outcome: &'static str,
+    cause: Option<&'static str>,
     first: usize,
     driven: usize,
     output: Vec<u8>,
@@ -94,15 +95,22 @@ impl Pair {
 
     /// A frame on the proved part.
     fn proved_frame(&mut self, input: &[u8], signals: Signals) -> Seen {
-        let (refusal, outcome, first, driven, output) = match self.part.frame(input, signals) {
-            Ok(seen) => (0, seen.answer.outcome, seen.answer.first, seen.answer.driven, seen.output),
-            Err(refusal) => (refusal.number(), Outcome::Nothing, 0, 0, vec![0; input.len()]),
+        let refused = Answer {
+            outcome: Outcome::Nothing,
+            cause: None,
+            first: 0,
+            driven: 0,
+        };
+        let (refusal, answer, output) = match self.part.frame(input, signals) {
+            Ok(seen) => (0, seen.answer, seen.output),
+            Err(refusal) => (refusal.number(), refused, vec![0; input.len()]),
         };
         Seen {
             refusal,
-            outcome: outcome.word(),
-            first,
-            driven,
+            outcome: answer.outcome.word(),
+            cause: answer.cause.map(Cause::words),
+            first: answer.first,
+            driven: answer.driven,
             output,
             record: self.part.record.words(),
         }
@@ -161,6 +169,7 @@ impl Model {
         Seen {
             refusal: answer.refusal,
             outcome: model_word(answer.outcome),
+            cause: answer.cause.map(model::Cause::words),
             first: answer.first,
             driven: answer.driven,
             output,

@@ -286,7 +286,7 @@ mod unread {
                 register: vec![0x5A; 128],
                 input: vec![0x02, 0, 0, 0, 0],
                 output: vec![0x77; 9],
-                answer: vec![99; 3],
+                answer: vec![99; 4],
                 running: vec![7, 5],
                 totals: [71; 256],
                 most: [72; 256],
@@ -363,7 +363,7 @@ mod unread {
     fn the_frame_that_is_spoilt_here_is_accepted() {
         let mut frame = Frame::accepted();
         assert_eq!(frame.run(), 0);
-        assert_eq!(frame.answer, [4, 0, 0]);
+        assert_eq!(frame.answer, [4, 0, 0, 0]);
         assert_eq!(frame.record, [0, 0, 0, 0, 0, 0, 12]);
         assert_eq!(frame.array[..2], [0x00, 0xA5]);
         assert_eq!(frame.output, [0xFF, 0xFF, 0xFF, 0xFF, 0xFF, 0x77, 0x77, 0x77, 0x77]);
@@ -408,8 +408,7 @@ mod unread {
 
     #[test]
     fn a_frame_with_slices_of_another_length() {
-        let slices: [fn(&mut Frame) -> &mut Vec<u64>; 3] =
-            [|frame| &mut frame.record, |frame| &mut frame.settings, |frame| &mut frame.answer];
+        let slices: [fn(&mut Frame) -> &mut Vec<u64>; 2] = [|frame| &mut frame.record, |frame| &mut frame.settings];
         for slice in slices {
             for words in other_lengths(slice(&mut Frame::accepted())) {
                 let mut frame = Frame::accepted();
@@ -424,6 +423,17 @@ mod unread {
         for signals in [&[][..], &[40], &[40, 1], &[40, 1, 0, 0, 0], &[40, 1, 0, 8, 0, 0, 0, 0]] {
             Frame {
                 signals: signals.to_vec(),
+                ..Frame::accepted()
+            }
+            .assert_unread();
+        }
+    }
+
+    #[test]
+    fn a_frame_with_an_answer_of_neither_three_words_nor_four() {
+        for length in [0, 1, 2, 5, 8] {
+            Frame {
+                answer: vec![99; length],
                 ..Frame::accepted()
             }
             .assert_unread();
