@@ -75,6 +75,12 @@ impl Call {
         self.input.first().copied()
     }
 
+    /// The opcode, if all its bits are clocked.
+    #[must_use]
+    pub fn clocked_opcode(&self) -> Option<u8> {
+        self.opcode().filter(|_| self.bits >= 8)
+    }
+
     /// How many byte positions the frame has, a partial last one among them.
     #[must_use]
     pub fn positions(&self) -> u64 {

@@ -154,6 +154,7 @@ impl Generator {
         let sort = self.random.below(100);
         match (record.mode, is_busy, record.wel, sort) {
             (Mode::Deep, _, _, 0..50) => 0xAB,
+            (Mode::Deep, _, _, 50..60) | (Mode::Awake, true, _, 60..65) => self.barred(record),
             (Mode::Awake, true, _, 0..30) => 0x05,
             (Mode::Awake, true, _, 30..60) => 0xF0,
             (Mode::Awake, false, true, 0..65) => self.operation(record),
@@ -172,6 +173,13 @@ impl Generator {
         } else {
             self.random.pick(&OPERATIONS)
         }
+    }
+
+    /// An operation that a flag of the record can bar, if there is such a flag; else any.
+    fn barred(&mut self, record: &Record) -> u8 {
+        let bars = [(record.bpl, 0x01), (record.bp0, 0x02), (record.otp_used, 0x9B)];
+        let barred: Vec<u8> = bars.into_iter().filter_map(|(bars, opcode)| bars.then_some(opcode)).collect();
+        self.random.pick(if barred.is_empty() { &CHANGES } else { &barred })
     }
 
     /// An input for this opcode: mostly as long as it needs, now and then shorter or longer.

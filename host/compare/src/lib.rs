@@ -10,6 +10,7 @@ mod call;
 mod difference;
 mod generator;
 pub mod hex;
+mod holds;
 pub mod ledger;
 pub mod measure;
 mod opcodes;

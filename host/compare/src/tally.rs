@@ -1,7 +1,8 @@
 //! What a run of calls came to, in numbers.
 use crate::call::Call;
+use crate::holds::{holding, PAIRS};
 use crate::opcodes::{CHANGES, CONTROLS, READS};
-use crate::reply::{Reply, OUTCOMES};
+use crate::reply::{Reply, CAUSES, OUTCOMES};
 use oxterin::{Mode, Record};
 use std::fmt;
 
@@ -17,6 +18,10 @@ pub struct Tally {
     refusals: [u64; REFUSALS + 1],
     /// Accepted calls by outcome.
     outcomes: [u64; OUTCOMES.len()],
+    /// Accepted calls by cause; none has number 0.
+    causes: [u64; CAUSES.len()],
+    /// Those in which a later cause holds too, by the numbers of both.
+    pairs: [[u64; CAUSES.len()]; CAUSES.len()],
     /// Those whose opcode was heard, by opcode and outcome.
     by_opcode: Vec<[u64; OUTCOMES.len()]>,
     /// Frames that woke a part from ultra-deep.
@@ -37,6 +42,8 @@ impl Default for Tally {
             calls: 0,
             refusals: [0; REFUSALS + 1],
             outcomes: [0; OUTCOMES.len()],
+            causes: [0; CAUSES.len()],
+            pairs: [[0; CAUSES.len()]; CAUSES.len()],
             by_opcode: vec![[0; OUTCOMES.len()]; 256],
             wakes: 0,
             resets: 0,
@@ -55,9 +62,10 @@ impl Tally {
             self.refusals[reply.refusal as usize] += 1;
             return;
         }
-        let outcome = place(reply.outcome);
+        let outcome = place(&OUTCOMES, reply.outcome);
         self.outcomes[outcome] += 1;
-        let opcode = call.opcode().filter(|_| call.bits >= 8);
+        self.note_cause(before, call, place(&CAUSES, reply.cause));
+        let opcode = call.clocked_opcode();
         match opcode {
             _ if before.mode == Mode::UltraDeep => self.wakes += 1,
             Some(opcode) => self.by_opcode[usize::from(opcode)][outcome] += 1,
@@ -72,6 +80,16 @@ impl Tally {
         self.begun_in_time += u64::from(reply.outcome == "begun" && call.ticks_per_byte > 0);
     }
 
+    /// Counts the cause of this number, and each later one that holds beside it.
+    fn note_cause(&mut self, before: &Record, call: &Call, cause: usize) {
+        self.causes[cause] += 1;
+        if cause > 0 {
+            for (later, holds) in (1..).zip(holding(before, call)).skip(cause) {
+                self.pairs[cause][later] += u64::from(holds);
+            }
+        }
+    }
+
     /// Adds the counts of another run.
     pub fn join(&mut self, other: &Tally) {
         self.calls += other.calls;
@@ -82,6 +100,10 @@ impl Tally {
         self.begun_in_time += other.begun_in_time;
         add(&mut self.refusals, &other.refusals);
         add(&mut self.outcomes, &other.outcomes);
+        add(&mut self.causes, &other.causes);
+        for (counts, others) in self.pairs.iter_mut().zip(&other.pairs) {
+            add(counts, others);
+        }
         for (counts, others) in self.by_opcode.iter_mut().zip(&other.by_opcode) {
             add(counts, others);
         }
@@ -96,7 +118,7 @@ impl Tally {
     /// How many calls in a hundred came to an outcome.
     #[must_use]
     pub fn share(&self, outcome: &str) -> f64 {
-        100.0 * self.outcomes[place(outcome)] as f64 / self.calls as f64
+        100.0 * self.outcomes[place(&OUTCOMES, outcome)] as f64 / self.calls as f64
     }
 
     /// What should have happened at least once and did not.
@@ -124,12 +146,18 @@ impl Tally {
         for (opcodes, outcome) in listed {
             for &opcode in opcodes {
                 want(
-                    self.by_opcode[usize::from(opcode)][place(outcome)],
+                    self.by_opcode[usize::from(opcode)][place(&OUTCOMES, outcome)],
                     format!("{opcode:02X}h {outcome}"),
                 );
             }
         }
-        want(self.outcomes[place("nothing")], "nothing".to_string());
+        want(self.outcomes[place(&OUTCOMES, "nothing")], "nothing".to_string());
+        for (&count, words) in self.causes.iter().zip(CAUSES).skip(1) {
+            want(count, format!("the cause {words}"));
+        }
+        for (first, later) in PAIRS {
+            want(self.pairs[first][later], pair(first, later));
+        }
         want(self.wakes, "a wake from ultra-deep".to_string());
         want(self.resets, "a reset while busy".to_string());
         want(self.ends_shown, "a status read that shows the end of busy".to_string());
@@ -154,9 +182,19 @@ impl fmt::Display for Tally {
         write!(f, "\n  begun by a frame that takes time {}", self.begun_in_time)?;
         f.write_str("\n  begun:")?;
         for opcode in CHANGES {
-            write!(f, " {opcode:02X}h {}", self.by_opcode[usize::from(opcode)][place("begun")])?;
+            write!(
+                f,
+                " {opcode:02X}h {}",
+                self.by_opcode[usize::from(opcode)][place(&OUTCOMES, "begun")]
+            )?;
         }
-        Ok(())
+        f.write_str("\n  causes:")?;
+        for (count, words) in self.causes.iter().zip(CAUSES).skip(1) {
+            write!(f, " {words} {count},")?;
+        }
+        let pairs = PAIRS.map(|(first, later)| (self.pairs[first][later], pair(first, later)));
+        let (fewest, rarest) = pairs.iter().min().expect("there are pairs");
+        write!(f, "\n  of {} pairs of causes the rarest is {rarest}: {fewest}", PAIRS.len())
     }
 }
 
@@ -178,12 +216,16 @@ fn is_heard_when_idle(before: &Record, opcode: u8) -> bool {
     READS.contains(&opcode) || (before.wel && CHANGES.contains(&opcode))
 }
 
-/// The number of an outcome's word.
-fn place(outcome: &str) -> usize {
-    OUTCOMES
-        .iter()
-        .position(|&word| word == outcome)
-        .expect("a reply has one of the five outcomes")
+/// The number of an outcome's or a cause's words in their list.
+fn place(list: &[&str], words: &str) -> usize {
+    list.iter()
+        .position(|&listed| listed == words)
+        .expect("a reply has one of the five outcomes, and one of the twelve causes or none")
+}
+
+/// What is said of two causes that hold at once.
+fn pair(first: usize, later: usize) -> String {
+    format!("{} told where {} holds too", CAUSES[first], CAUSES[later])
 }
 
 /// Adds counts one by one.
@@ -247,6 +289,40 @@ mod tests {
         }
     }
 
+    /// A chip erase of a protected part in deep power-down, the latch clear: three causes hold, and the first is told.
+    #[test]
+    fn causes_are_counted_alone_and_with_each_later_one_that_holds() {
+        let before = Record {
+            mode: Mode::Deep,
+            ..Record::fresh(false, true, false)
+        };
+        let reply = Reply {
+            cause: "asleep",
+            ..Reply::refused(0, &before)
+        };
+        let mut tally = Tally::default();
+        for _ in 0..2 {
+            let mut other = Tally::default();
+            other.note(&before, &Call::of(&[0x60]), &reply);
+            tally.join(&other);
+        }
+        let met = PAIRS.into_iter().filter(|&(first, later)| tally.pairs[first][later] == 2);
+        assert_eq!(met.collect::<Vec<_>>(), [(2, 5), (2, 9)]);
+        assert_eq!((tally.causes[2], tally.causes.iter().sum::<u64>()), (2, 2));
+        let gaps = tally.gaps();
+        for (gap, is_there) in [
+            ("the cause asleep", false),
+            ("the cause latch clear", true),
+            ("asleep told where latch clear holds too", false),
+            ("latch clear told where protected holds too", true),
+        ] {
+            assert_eq!(gaps.iter().any(|named| named == gap), is_there, "{gap}");
+        }
+        let refused = Reply::refused(2, &before);
+        tally.note(&before, &Call::of(&[0x60]), &refused);
+        assert_eq!(tally.causes.iter().sum::<u64>(), 2);
+    }
+
     #[test]
     fn what_never_happened_is_a_gap() {
         let gaps = Tally::default().gaps();
@@ -255,6 +331,10 @@ mod tests {
             "a status read that shows the end of busy",
             "a frame ignored although busy ended inside",
             "an operation begun by a frame that takes time",
+            "the cause too few bits",
+            "the cause already awake",
+            "too few bits told where asleep holds too",
+            "incomplete told where already programmed holds too",
         ] {
             assert!(gaps.iter().any(|named| named == gap), "{gap}");
         }

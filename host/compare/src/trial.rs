@@ -1,6 +1,7 @@
 //! A trial: the three sides on memories that began alike, call after call.
 use crate::call::Call;
 use crate::difference::Difference;
+use crate::holds;
 use crate::opcodes::CHANGES;
 use crate::reply::{record_of, Reply};
 use crate::side::{by_model, by_words, by_wrapper, close_by_model, close_by_words, close_by_wrapper};
@@ -102,7 +103,7 @@ impl Trial {
             return Err(Difference::panic(self.sides[MODEL].name));
         };
         let mut found = Difference::default();
-        let owed = owed(&reply, &before);
+        let owed = owed(&reply, &before, call);
         for (side, reply) in self.sides.iter().zip(replies) {
             found.reply(side.name, reply, &owed);
         }
@@ -199,10 +200,14 @@ impl Trial {
     }
 }
 
-/// What the model's answer obliges every side to, itself too: a refusal gives the record back as it came.
-fn owed(model: &Reply, before: &Record) -> Reply {
+/// What the model's answer obliges every side to, itself too: the cause is the first that holds, and a refusal has none and gives the record
+/// back as it came.
+fn owed(model: &Reply, before: &Record, call: &Call) -> Reply {
     if model.refusal == 0 {
-        *model
+        Reply {
+            cause: holds::first(before, call),
+            ..*model
+        }
     } else {
         Reply::refused(model.refusal, before)
     }
@@ -429,7 +434,11 @@ mod tests {
 
     #[test]
     fn a_wrong_field_is_a_difference() {
-        let shams: [Run; 5] = [
+        let shams: [Run; 6] = [
+            |call, record, lent| Reply {
+                cause: "busy",
+                ..by_words(call, record, lent)
+            },
             |call, record, lent| Reply {
                 refusal: 7,
                 ..by_words(call, record, lent)
@@ -453,6 +462,41 @@ mod tests {
         ];
         for sham in shams {
             assert_eq!(first_difference(sham, Care::WhenDue), Some(0));
+        }
+    }
+
+    #[test]
+    fn a_cause_left_out_or_given_to_a_refused_call_is_a_difference() {
+        let no_cause: Run = |call, record, lent| Reply {
+            cause: "none",
+            ..by_words(call, record, lent)
+        };
+        assert_eq!(first_difference(no_cause, Care::WhenDue), Some(1));
+        let refused_too: Run = |call, record, lent| match by_words(call, record, lent) {
+            reply if reply.refusal == 0 => reply,
+            reply => Reply { cause: "busy", ..reply },
+        };
+        assert_eq!(first_difference(refused_too, Care::WhenDue), Some(2));
+        assert_eq!(first_difference_in_ledgers(refused_too), Some(5));
+        let mut trial = Trial::of(("a sham", no_cause, close_by_words), Care::WhenDue);
+        let said = trial.run(&Call::of(&[0x60])).map_err(|difference| difference.to_string());
+        let wanted = "a sham answers refusal 0, nothing, cause none, driven 0 from 0, record [0, 0, 0, 0, 0, 0, 0]\n  \
+                      against refusal 0, nothing, cause latch clear, driven 0 from 0, record [0, 0, 0, 0, 0, 0, 0]";
+        assert_eq!(said, Err(wanted.to_string()));
+    }
+
+    #[test]
+    fn what_is_owed_has_the_first_cause_that_holds_whatever_the_model_tells() {
+        let protected = Record::fresh(false, true, false);
+        let erase = Call::of(&[0x60]);
+        for told in ["none", "latch clear", "protected"] {
+            let model = Reply {
+                cause: told,
+                ..Reply::refused(0, &protected)
+            };
+            assert_eq!(owed(&model, &protected, &erase).cause, "latch clear");
+            let refused = Reply { refusal: 7, ..model };
+            assert_eq!(owed(&refused, &protected, &erase), Reply::refused(7, &protected));
         }
     }
 
