@@ -98,6 +98,9 @@ mod tests {
         for (place, cause) in (1..).zip(Cause::ALL) {
             assert_eq!((cause.number(), Cause::of_number(place)), (place, Some(cause)));
         }
-        assert_eq!((Cause::of_number(0), Cause::of_number(13), Cause::of_number(u64::MAX)), (None, None, None));
+        assert_eq!(
+            (Cause::of_number(0), Cause::of_number(13), Cause::of_number(u64::MAX)),
+            (None, None, None)
+        );
     }
 }

@@ -285,7 +285,7 @@ pub fn look<'a>(array: &'a [u8], register: &'a [u8], memory: Memory, address: u6
 #[cfg(test)]
 mod tests {
     use super::*;
-    use crate::{Part, Size};
+    use crate::{Mode, Part, Size};
 
     /// A part with so many busy ticks left.
     fn busy(ticks: u64) -> Part {
@@ -318,6 +318,7 @@ mod tests {
         let signals = Signals::whole(&read).with_ticks_per_byte(1_000);
         let ignored = part.frame(&read, signals).expect("it is accepted");
         assert_eq!((ignored.answer.outcome, ignored.answer.driven), (Outcome::Nothing, 0));
+        assert_eq!(ignored.answer.cause, Some(Cause::Busy));
         assert_eq!(part.record.busy, 0);
         let heard = part.frame(&read, signals).expect("it is accepted");
         assert_eq!((heard.answer.outcome, heard.answer.driven), (Outcome::Read, 1));
@@ -394,10 +395,109 @@ mod tests {
     #[test]
     fn signals_have_four_words_or_the_three_of_1_1_0() {
         let left = |ticks| busy(ticks).record.words();
-        assert_eq!(polled(4), (0, left(0), [0xFF, 0x11, 0x00], [1, 1, 2]));
-        assert_eq!(polled(3), (0, left(16), [0xFF, 0x11, 0x01], [1, 1, 2]));
+        assert_eq!(polled(4), (0, left(0), [0xFF, 0x11, 0x00], [1, 1, 2, 0]));
+        assert_eq!(polled(3), (0, left(16), [0xFF, 0x11, 0x01], [1, 1, 2, 0]));
         for words in [0, 1, 2, 5] {
-            assert_eq!(polled(words), (raw::UNREAD, left(20), [0xEE; 3], [77; 3]), "{words} words");
+            assert_eq!(polled(words), (raw::UNREAD, left(20), [0xEE; 3], [77; 4]), "{words} words");
+        }
+    }
+
+    /// The number that an erase of a busy part is answered with when so many words of an answer are lent, and those words afterwards.
+    fn erased(words: usize) -> (u64, [u64; raw::ANSWER + 1]) {
+        let mut answer = [77; raw::ANSWER + 1];
+        let number = raw::frame(
+            &mut busy(20).record.words(),
+            &Settings::typical().words(),
+            &[32, 1, 0, 0],
+            &mut [0xFF; 65_536],
+            &mut [0xFF; 128],
+            &[0x20, 0, 0, 0],
+            &mut [0; 4],
+            &mut answer[..words],
+        );
+        (number, answer)
+    }
+
+    #[test]
+    fn answers_have_four_words_or_the_three_of_1_4_0() {
+        assert_eq!(erased(4), (0, [0, 0, 0, 3, 77]));
+        assert_eq!(erased(3), (0, [0, 0, 0, 77, 77]));
+        for words in [0, 1, 2, 5] {
+            assert_eq!(erased(words), (raw::UNREAD, [77; 5]), "{words} words");
+        }
+    }
+
+    /// What a frame of so many bits answers on a part with this record, WP low; a part of its own answers the same.
+    fn answered(mut record: Record, input: &[u8], bits: u64) -> Answer {
+        let mut part = Part::blank(Size::Small);
+        part.record = record;
+        let signals = Signals {
+            bits,
+            wp_high: false,
+            ..Signals::whole(input)
+        };
+        let (mut array, mut register, mut output) = ([0xFF; 65_536], [0xFF; 128], [0; 5]);
+        let settings = Settings::typical();
+        let answer = frame(&mut record, &settings, &mut array, &mut register, input, signals, &mut output).expect("it is accepted");
+        assert_eq!(part.frame(input, signals).map(|exchange| exchange.answer), Ok(answer));
+        answer
+    }
+
+    /// A part on which 06h was sent, that is protected, locked and programmed once and for all.
+    const BARRED: Record = Record {
+        bpl: true,
+        bp0: true,
+        wel: true,
+        rste: false,
+        otp_used: true,
+        mode: Mode::Awake,
+        busy: 0,
+    };
+
+    #[test]
+    fn what_came_to_nothing_or_was_aborted_says_why() {
+        let deep = Record {
+            mode: Mode::Deep,
+            ..BARRED
+        };
+        let busy = Record { busy: 1, ..BARRED };
+        let unlatched = Record { wel: false, ..BARRED };
+        let frames: [(Cause, Outcome, Record, &[u8], u64); 12] = [
+            (Cause::TooFewBits, Outcome::Nothing, BARRED, &[0x60], 7),
+            (Cause::Asleep, Outcome::Nothing, deep, &[0x60], 8),
+            (Cause::Busy, Outcome::Nothing, busy, &[0x60], 8),
+            (Cause::UnknownOpcode, Outcome::Nothing, BARRED, &[0xFF], 8),
+            (Cause::LatchClear, Outcome::Nothing, unlatched, &[0x60], 8),
+            (Cause::ResetUnconfirmed, Outcome::Nothing, BARRED, &[0xF0, 0xD0], 16),
+            (Cause::OffBoundary, Outcome::Aborted, BARRED, &[0x60, 0x00], 9),
+            (Cause::Incomplete, Outcome::Aborted, BARRED, &[0x02, 0, 0, 0], 32),
+            (Cause::Protected, Outcome::Aborted, BARRED, &[0x60], 8),
+            (Cause::Locked, Outcome::Aborted, BARRED, &[0x01, 0x00], 16),
+            (Cause::AlreadyProgrammed, Outcome::Aborted, BARRED, &[0x9B, 0, 0, 0, 0], 40),
+            (Cause::AlreadyAwake, Outcome::Nothing, BARRED, &[0xAB], 8),
+        ];
+        assert_eq!(frames.map(|(cause, ..)| cause), Cause::ALL);
+        for (cause, outcome, record, input, bits) in frames {
+            let answer = answered(record, input, bits);
+            assert_eq!((answer.outcome, answer.cause), (outcome, Some(cause)), "{input:02X?}");
+        }
+    }
+
+    #[test]
+    fn what_was_carried_out_has_no_cause() {
+        let open = Record { bp0: false, ..BARRED };
+        let ultra_deep = Record {
+            mode: Mode::UltraDeep,
+            ..BARRED
+        };
+        for (outcome, record, input, bits) in [
+            (Outcome::Read, BARRED, &[0x03, 0x00][..], 9),
+            (Outcome::Control, BARRED, &[0x04], 8),
+            (Outcome::Control, ultra_deep, &[0x60], 7),
+            (Outcome::Begun, open, &[0x60], 8),
+        ] {
+            let answer = answered(record, input, bits);
+            assert_eq!((answer.outcome, answer.cause), (outcome, None), "{input:02X?}");
         }
     }
 

@@ -222,7 +222,7 @@ pub fn frame_for(
 #[cfg(test)]
 mod tests {
     use super::*;
-    use crate::{Outcome, Part, Size};
+    use crate::{Cause, Outcome, Part, Size};
 
     /// A part on which account 3 has begun an erase of 50,000 ticks, and the ledger.
     fn erasing() -> (Part, Ledger) {
@@ -318,6 +318,21 @@ mod tests {
         let answer = part.frame_for(8, &mut ledger, &input, signals);
         assert_eq!(answer, bare.frame(&input, signals));
         assert_eq!(part, bare);
+    }
+
+    #[test]
+    fn the_cause_is_told_through_a_ledger() {
+        let mut part = Part::blank(Size::Small);
+        let mut ledger = Ledger::empty();
+        let mut told = |input: &[u8]| part.send_for(3, &mut ledger, input).map(|exchange| exchange.answer.cause);
+        assert_eq!(told(&[0x20, 0, 0, 0]), Ok(Some(Cause::LatchClear)));
+        assert_eq!(told(&[0x06]), Ok(None));
+        assert_eq!(told(&[0x20, 0, 0]), Ok(Some(Cause::Incomplete)));
+        assert_eq!(told(&[0x06]), Ok(None));
+        assert_eq!(told(&[0x20, 0, 0, 0]), Ok(None));
+        assert_eq!(told(&[0x05, 0]), Ok(None));
+        assert_eq!(told(&[0x06]), Ok(Some(Cause::Busy)));
+        assert_eq!(part.send_for(256, &mut ledger, &[0x06]), Err(Refusal::Account));
     }
 
     #[test]

@@ -20,6 +20,17 @@
 //! # Ok::<(), oxterin::Refusal>(())
 //! ```
 //!
+//! A frame of which nothing came, or that was aborted, says why ([`Cause`]):
+//!
+//! ```
+//! use oxterin::{Cause, Outcome, Part, Size};
+//!
+//! let mut part = Part::blank(Size::Whole);
+//! let erase = part.send(&[0x20, 0x00, 0x10, 0x00])?.answer; // without 06h before it
+//! assert_eq!((erase.outcome, erase.cause), (Outcome::Nothing, Some(Cause::LatchClear)));
+//! # Ok::<(), oxterin::Refusal>(())
+//! ```
+//!
 //! Where several accounts share a part, every frame of it goes through its ledger: one sent past it ([`Part::send`], [`Part::frame`],
 //! [`frame`]), or a changed record, leaves [`Ledger::running`] stale. A ledger is one part's; who has several parts keeps one ledger each
 //! and adds the lines.
