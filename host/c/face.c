@@ -159,6 +159,69 @@ static void signals_by_words(void) {
     CHECK(output[0] == 0xFF && output[1] == 0x13 && output[2] == 0x00);
 }
 
+/* An erase of a protected part with WEL set by the function on words, handed so many words of an answer, bare or through the ledger. */
+static uint64_t erase_by_words(uint64_t device[7], uint64_t *told, size_t words, bool billed) {
+    const uint8_t erase[] = {0x20, 0x00, 0x00, 0x00};
+    const uint64_t durations[8] = {1, 1, 1, 1, 1, 1, 1, 1};
+    const uint64_t signals[4] = {32, 1, 0, 0};
+    uint64_t running[2] = {OXTERIN_NOBODY, 0};
+    return billed ? oxterin_ledger_frame(device, 7, durations, 8, signals, 4, array, sizeof array, security, sizeof security, erase,
+                                         sizeof erase, output, sizeof output, told, words, 7, running, 2, ledger.totals, ledger.most,
+                                         ledger.numbers)
+                  : oxterin_frame(device, 7, durations, 8, signals, 4, array, sizeof array, security, sizeof security, erase,
+                                  sizeof erase, output, sizeof output, told, words);
+}
+
+/* Whether an erase handed so many words of an answer gives this number, leaves WEL so, and writes the first `written` words alone. */
+static bool erase_answers(size_t words, bool billed, uint64_t number, uint64_t wel, size_t written) {
+    const uint64_t aborted[4] = {OXTERIN_ABORTED, 0, 0, OXTERIN_PROTECTED};
+    uint64_t device[7] = {0, 1, 1, 0, 0, 0, 0};
+    uint64_t told[6] = {77, 77, 77, 77, 77, 77};
+    size_t k;
+    start();
+    if (erase_by_words(device, told, words, billed) != number || device[2] != wel || output[0] != (written ? 0xFF : 0xEE)) {
+        return false;
+    }
+    for (k = 0; k < 6 && told[k] == (k < written ? aborted[k] : 77); k++) {
+    }
+    return k == 6;
+}
+
+/* Answers of four words, or of the three of versions up to 1.4.0; with another count nothing is read, and nothing written. */
+static void answers_by_words(void) {
+    CHECK(erase_answers(4, false, 0, 0, 4) && erase_answers(4, true, 0, 0, 4));
+    CHECK(erase_answers(3, false, 0, 0, 3) && erase_answers(3, true, 0, 0, 3));
+    CHECK(erase_answers(2, false, OXTERIN_UNREAD, 1, 0) && erase_answers(2, true, OXTERIN_UNREAD, 1, 0));
+    CHECK(erase_answers(5, false, OXTERIN_UNREAD, 1, 0) && erase_answers(5, true, OXTERIN_UNREAD, 1, 0));
+}
+
+/* Whether a frame of whole bytes comes to this outcome and cause, bare and, from the same record, for account 7. */
+static bool tells(const uint8_t *input, size_t length, oxterin_outcome outcome, oxterin_cause cause) {
+    const oxterin_record before = record;
+    bool bare = send_bytes(input, length, 0) == OXTERIN_ACCEPTED && answer.outcome == outcome && answer.cause == cause;
+    record = before;
+    return send_for(7, input, length, 0, 0) == OXTERIN_ACCEPTED && answer.outcome == outcome && answer.cause == cause && bare;
+}
+
+/* Why nothing came of a frame, or why it was aborted; any other has no cause, and neither has a refused call. */
+static void causes(void) {
+    const uint8_t enable[] = {0x06};
+    const uint8_t erase[] = {0x20, 0x00, 0x00, 0x00};
+    const uint8_t poll[] = {0x05, 0x00};
+    const uint8_t wake[] = {0xAB};
+    start();
+    CHECK(tells(erase, 4, OXTERIN_NOTHING, OXTERIN_LATCH_CLEAR) && tells(erase, 3, OXTERIN_NOTHING, OXTERIN_LATCH_CLEAR));
+    CHECK(tells(NULL, 0, OXTERIN_NOTHING, OXTERIN_TOO_FEW_BITS) && tells(wake, 1, OXTERIN_NOTHING, OXTERIN_ALREADY_AWAKE));
+    CHECK(tells(poll, 2, OXTERIN_READ, OXTERIN_NO_CAUSE));
+    CHECK(tells(enable, 1, OXTERIN_CONTROL, OXTERIN_NO_CAUSE) && tells(erase, 3, OXTERIN_ABORTED, OXTERIN_INCOMPLETE));
+    CHECK(tells(enable, 1, OXTERIN_CONTROL, OXTERIN_NO_CAUSE) && tells(erase, 4, OXTERIN_BEGUN, OXTERIN_NO_CAUSE));
+    CHECK(tells(enable, 1, OXTERIN_NOTHING, OXTERIN_BUSY)); /* which the refused calls after it do not leave in the answer */
+    CHECK(send_for(256, enable, 1, 0, 0) == OXTERIN_ACCOUNT && answer.outcome == OXTERIN_NOTHING && answer.cause == OXTERIN_NO_CAUSE);
+    CHECK(tells(enable, 1, OXTERIN_NOTHING, OXTERIN_BUSY));
+    settings.otp_program = 0;
+    CHECK(send_bytes(enable, 1, 0) == OXTERIN_DURATION && answer.outcome == OXTERIN_NOTHING && answer.cause == OXTERIN_NO_CAUSE);
+}
+
 static void refusals(void) {
     const uint8_t poll[] = {0x05, 0x00};
     oxterin_signals odd = {17, true, 0, 0};
@@ -482,6 +545,8 @@ int main(void) {
     an_operation_starts_at_the_rise();
     most_ticks_per_byte();
     signals_by_words();
+    answers_by_words();
+    causes();
     refusals();
     looks();
     busy_time_is_billed_to_who_began_it();
