@@ -2,7 +2,7 @@
 //! They look at the record, whether it is busy at the first bit, the frame and the level of WP.
 //!
 //! A boundary, a number of bytes or the latch is asked of a command that needs it, and of nothing else: neither of fewer than 8 bits nor of
-//! an unknown opcode. A command whose bytes are not all there is incomplete off a boundary too. F0h needs its second byte, so without it F0h
+//! an unknown opcode. A command whose bytes are not all there is incomplete off a boundary too. F0h needs its second byte: without it F0h
 //! is incomplete as well as not confirmed.
 use crate::call::Call;
 use crate::opcodes::{CHANGES, CONTROLS, READS};
@@ -21,8 +21,9 @@ const COUNT: usize = CAUSES.len() - 1;
 /// - With 4 there is no command, and so nothing that is asked of one.
 /// - With 5 the command needs the latch, and so is neither F0h nor ABh: not 6, not 12.
 /// - With 6 it is F0h, which can be off a boundary and without its second byte, and nothing else.
-/// - With 7 it is not ABh, which was asleep or is never off a boundary. The others that need the latch can be 8 to 11.
-/// - With 8 it needs the latch, as F0h would be 6. 9, 10 and 11 have commands of several bytes.
+/// - With 7 it is not ABh, which is asleep before it is off a boundary, and awake is never off one: not 12. The commands that need the
+///   latch can be 8 to 11.
+/// - With 8 it needs the latch, as F0h without its second byte is 6: not 12. Each of 9, 10 and 11 has a command that needs further bytes.
 /// - 9 to 12 are of different opcodes.
 pub(crate) const PAIRS: [(usize, usize); 32] = [
     (1, 2),

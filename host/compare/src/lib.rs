@@ -1,9 +1,10 @@
 //! The proved part beside the independent model: the same call on both, every field and every byte of the answers compared.
 //!
 //! A [`Call`] runs on three sides, each with memories of its own: the proved face by words, the safe wrapper over it, and the model. A
-//! [`Trial`] holds the three and says where they differ. [`Generator`] makes long random series of calls, [`shrink()`] cuts a series that
-//! shows a difference down to what is needed, and [`text`] writes it in lines that can be replayed. [`ledger`] makes series of calls that
-//! are billed to accounts. [`hex`] does all this for images as Intel HEX text, and [`measure`] takes times.
+//! [`Trial`] holds the three and says where they differ, or tell another cause than the first that holds. [`Generator`] makes long random
+//! series of calls, [`shrink()`] cuts a series that shows a difference down to what is needed, and [`text`] writes it in lines that can be
+//! replayed. [`ledger`] makes series of calls that are billed to accounts. [`hex`] does all this for images as Intel HEX text, and
+//! [`measure`] takes times.
 
 mod asked;
 mod call;

@@ -200,7 +200,7 @@ impl Trial {
     }
 }
 
-/// What the model's answer obliges every side to, itself too: the cause is the first that holds, and a refusal has none and gives the record
+/// What the model's answer obliges every side to, itself too: the cause is the first that holds; a refusal has none, and gives the record
 /// back as it came.
 fn owed(model: &Reply, before: &Record, call: &Call) -> Reply {
     if model.refusal == 0 {
