@@ -12,7 +12,8 @@ use Rattle.runs.specs.Run as run
 use Rattle.cells.specs.Each.{each, eachFrom, over}
 use Rattle.pages.specs.Page.{covered, last}
 use Rattle.opcodes.specs.Rows.{rowOf, rows, lookup}
-use Rattle.judge.specs.Judging.{judged, byOpcode}
+use Rattle.judge.specs.Causes.{causeOf}
+use Rattle.judge.specs.Judging.{judged, ended}
 use Rattle.settings.specs.Settings.{anyUnfair}
 use Rattle.calls.specs.Refusal.{refusalOf}
 use Rattle.output.specs.Output.{readAt}
@@ -99,7 +100,7 @@ pub all-rows : Rows
 unfolding table further polls flags modes data-rows read-rows refused-rows unmoved rousing aborting counting bytes
     repliesOf wantedOf fittingIn fitting allFitting agrees everywhere halved steadyOperations steadyPiece steadyPieces
     steadyFor one-side apart inside through painted run.end run.gathered cameTold next replied numberFor refusalOf
-    anyUnfair judgedOf judged byOpcode rowOf rows lookup readAt each eachFrom over covered last
+    anyUnfair judgedOf judged ended causeOf rowOf rows lookup readAt each eachFrom over covered last
 all-rows =
     record {
       worked-table = each-holds table refl refl;

@@ -8,40 +8,42 @@ use Rattle.device.specs.declared.Device.{Device}
 use Rattle.device.specs.declared.Mode.the-variants.{Awake}
 use Rattle.worked.specs.Worked.{Exchange, Piece, Row}
 use Rattle.worked.specs.Frames.{latched, longer, on-array, above, reads, orders}
-use Rattle.worked.specs.Words.{held, stands, idle, enabled, busy, worn, counting, clocked, whole, low, paced}
-use Rattle.worked.specs.Words.{header, came, quiet, begun, _⇒_, unmoved, aborting, piece, rising, bytes, row}
+use Rattle.worked.specs.Words.{held, stands, idle, enabled, busy, worn, counting, clocked, whole, wholes, low, paced}
+use Rattle.worked.specs.Words.{header, came, quiet, nothing, aborted, begun, _⇒_, unmoved, aborting, piece, rising, bytes, row}
 use Rattle.worked.specs.Words.{lasting, sized, registered}
 
 -- with WEL 0 none is carried out, whatever the other flags
 abbrev without-wel : Device → Row
-without-wel d = row d 0x00 (unmoved "nothing" d latched) []
+without-wel d = row d 0x00 (unmoved (nothing "latch clear") d (wholes latched)) []
 
 -- busy, none is and WEL stays; nor is any other command then but 05 and F0, which wants D0
 abbrev while-busy : Device → Row
 while-busy d =
     row d 0x00
-    (unmoved "nothing" d
-    (latched ++ reads ++ orders ++ ((0xAB ∷ []) ∷ (0x00 ∷ []) ∷ (0xF0 ∷ 0xD1 ∷ []) ∷ (0x02 ∷ 0xD0 ∷ []) ∷ []))) []
+    (unmoved (nothing "busy") d
+    (wholes (latched ++ reads ++ orders ++ ((0xAB ∷ []) ∷ (0x00 ∷ []) ∷ (0x02 ∷ 0xD0 ∷ []) ∷ []))) ++
+    ((whole (0xF0 ∷ 0xD1 ∷ []) 0 ⇒ nothing "reset not enabled or not confirmed" d 2) ∷ []))
+    []
 
 -- off a boundary each is aborted, though it is complete without the byte of which four bits were clocked, or two, or
 -- seven
 abbrev cut-by-four : Row
 cut-by-four =
     row (held true false true true false Awake 0) 0x00
-    (aborting true 4 (held true false true true false Awake 0) (held true false false true false Awake 0) longer) []
+    (aborting "off boundary" true 4 (held true false true true false Awake 0) (held true false false true false Awake 0) longer) []
 
 abbrev cut-by-six : Row
 cut-by-six =
     row (held false true true false true Awake 0) 0x00
-    (aborting true 6 (held false true true false true Awake 0) (held false true false false true Awake 0) longer) []
+    (aborting "off boundary" true 6 (held false true true false true Awake 0) (held false true false false true Awake 0) longer) []
 
 abbrev cut-by-one : Row
-cut-by-one = row enabled 0x00 (aborting true 1 enabled idle longer) []
+cut-by-one = row enabled 0x00 (aborting "off boundary" true 1 enabled idle longer) []
 
 -- protected by BP0: neither BPL nor WP bears on it, nor the address
 abbrev guarded-array : Bool → Bool → List (List ℕ) → Row
 guarded-array bpl wp frames =
-    row (stands bpl true true 0) 0x00 (aborting wp 0 (stands bpl true true 0) (stands bpl true false 0) frames) []
+    row (stands bpl true true 0) 0x00 (aborting "protected" wp 0 (stands bpl true true 0) (stands bpl true false 0) frames) []
 
 abbrev worn-enabled : Device
 worn-enabled = held true false true true true Awake 0
@@ -195,7 +197,7 @@ abbrev otp-used : Row
 otp-used =
     registered 128 made []
     (row (held false true true true true Awake 0) 0xFF
-    ((whole (0x9B ∷ 0x00 ∷ 0x00 ∷ 0x00 ∷ 0x00 ∷ []) 0 ⇒ quiet "aborted" (held false true false true true Awake 0) 5) ∷
+    ((whole (0x9B ∷ 0x00 ∷ 0x00 ∷ 0x00 ∷ 0x00 ∷ []) 0 ⇒ aborted "already programmed" (held false true false true true Awake 0) 5) ∷
     [])
     [])
 

@@ -74,6 +74,9 @@ pub record Example : Type 0 where
   pub outcomes : map (λ (r : Result). r .reply .outcome) (results steps begins)
       ≡ "control" ∷ "control" ∷ "control" ∷ "begun" ∷ "control" ∷ "begun" ∷ "control" ∷ "begun" ∷ "nothing" ∷
       "nothing" ∷ "nothing" ∷ "nothing" ∷ "control" ∷ "control" ∷ "begun" ∷ []
+  pub causes : map (λ (r : Result). r .reply .cause) (results steps begins)
+      ≡ "none" ∷ "none" ∷ "none" ∷ "none" ∷ "none" ∷ "none" ∷ "none" ∷ "none" ∷ "none" ∷ "none" ∷ "none" ∷ "busy" ∷
+      "none" ∷ "none" ∷ "none" ∷ []
   pub busy : map (λ (r : Result). r .reply .device .busy) (results steps begins)
       ≡ 0 ∷ 0 ∷ 0 ∷ 12 ∷ 0 ∷ 12 ∷ 0 ∷ 50000 ∷ 50000 ∷ 50000 ∷ 50000 ∷ 49900 ∷ 0 ∷ 0 ∷ 12 ∷ []
   pub operations : effects steps begins

@@ -8,8 +8,8 @@ use Rattle.device.specs.declared.Device.{Device}
 use Rattle.device.specs.declared.Mode.the-variants.{Awake}
 use Rattle.device.specs.Device.{fresh}
 use Rattle.worked.specs.Worked.{Sent, Exchange, Row}
-use Rattle.worked.specs.Words.{held, stands, idle, clocked, whole, low, pulled, paced, came, quiet, begun, _⇒_}
-use Rattle.worked.specs.Words.{unmoved, piece, row}
+use Rattle.worked.specs.Words.{held, stands, idle, clocked, whole, low, pulled, paced, came, quiet, nothing}
+use Rattle.worked.specs.Words.{wholes, aborted, begun, _⇒_, unmoved, piece, row}
 
 -- a fresh record takes BPL, BP0 and the OTP-used mark from the caller; the rest is clear
 abbrev begins : Bool → Bool → Bool → ℕ → Row
@@ -43,7 +43,7 @@ write-bp0 =
     (writes false false 0x04 false true 0x05 ++
     ((low (0x05 ∷ 0x00 ∷ []) 1 ⇒ came "read" 1 1 (stands false true false 0) (0xFF ∷ 0x04 ∷ [])) ∷
     (low (0x06 ∷ []) 0 ⇒ quiet "control" (stands false true true 0) 1) ∷
-    (low (0x02 ∷ 0x00 ∷ 0x00 ∷ 0x10 ∷ 0x5A ∷ []) 0 ⇒ quiet "aborted" (stands false true false 0) 5) ∷
+    (low (0x02 ∷ 0x00 ∷ 0x00 ∷ 0x10 ∷ 0x5A ∷ []) 0 ⇒ aborted "protected" (stands false true false 0) 5) ∷
     []))
     []
 
@@ -75,7 +75,7 @@ locks bp0 byte becomes =
 -- with BPL 1 and WP low it is aborted
 abbrev locked-low : Row
 locked-low =
-    row (guarded true false true) 0xFF ((low (0x01 ∷ 0x04 ∷ []) 0 ⇒ quiet "aborted" (guarded true false false) 2) ∷ [])
+    row (guarded true false true) 0xFF ((low (0x01 ∷ 0x04 ∷ []) 0 ⇒ aborted "locked" (guarded true false false) 2) ∷ [])
     []
 
 -- 31: bit 4 alone goes to RSTE, also with BPL 1 and WP low; control, and no busy time
@@ -102,9 +102,10 @@ resetting sent bpl bp0 used ticks =
 abbrev no-resets : Device → Row
 no-resets d =
     row d 0xFF
-    (unmoved "nothing" d ((0xF0 ∷ []) ∷ (0xF0 ∷ 0x00 ∷ 0xD0 ∷ []) ∷ (0xF0 ∷ 0xF0 ∷ []) ∷ (0xF0 ∷ 0xD8 ∷ []) ∷ []) ++
-    ((clocked 20 (0xF0 ∷ 0xD0 ∷ 0x00 ∷ []) 0 ⇒ quiet "nothing" d 3) ∷
-    (pulled (clocked 15 (0xF0 ∷ 0xD0 ∷ []) 0) ⇒ quiet "nothing" d 2) ∷
+    (unmoved (nothing "reset not enabled or not confirmed") d
+    (wholes ((0xF0 ∷ []) ∷ (0xF0 ∷ 0x00 ∷ 0xD0 ∷ []) ∷ (0xF0 ∷ 0xF0 ∷ []) ∷ (0xF0 ∷ 0xD8 ∷ []) ∷ [])) ++
+    ((clocked 20 (0xF0 ∷ 0xD0 ∷ 0x00 ∷ []) 0 ⇒ nothing "off boundary" d 3) ∷
+    (pulled (clocked 15 (0xF0 ∷ 0xD0 ∷ []) 0) ⇒ nothing "reset not enabled or not confirmed" d 2) ∷
     []))
     []
 
@@ -112,7 +113,8 @@ no-resets d =
 abbrev no-reset-idle : Row
 no-reset-idle =
     row (held true true true false true Awake 0) 0xFF
-    ((low (0xF0 ∷ 0xD0 ∷ []) 0 ⇒ quiet "nothing" (held true true true false true Awake 0) 2) ∷ []) []
+    ((low (0xF0 ∷ 0xD0 ∷ []) 0 ⇒
+    nothing "reset not enabled or not confirmed" (held true true true false true Awake 0) 2) ∷ []) []
 
 -- 06 and 04 change WEL alone, whatever it was
 abbrev latching : Bool → Bool → Bool → Bool → Row

@@ -7,8 +7,8 @@ use Rattle.device.specs.declared.Device.{Device}
 use Rattle.device.specs.declared.Mode.{Mode}
 use Rattle.device.specs.declared.Mode.the-variants.{Awake, Deep, UltraDeep}
 use Rattle.worked.specs.Worked.{Exchange, Row}
-use Rattle.worked.specs.Words.{held, stands, idle, enabled, busy, clocked, whole, low, came, quiet, begun}
-use Rattle.worked.specs.Words.{refused, _⇒_, piece, row, sized, registered}
+use Rattle.worked.specs.Words.{held, stands, idle, enabled, busy, clocked, whole, low, came, quiet, nothing}
+use Rattle.worked.specs.Words.{aborted, begun, refused, _⇒_, piece, row, sized, registered}
 
 -- a record of a part that is not protected, with all else said
 abbrev told : Bool → Bool → Bool → Mode → ℕ → Device
@@ -36,12 +36,12 @@ abbrev quiets : Row
 quiets =
     row idle 0xFF
     ((whole (0x15 ∷ 0x00 ∷ 0x00 ∷ 0x00 ∷ []) 0 ⇒ came "read" 1 2 idle (0xFF ∷ 0x1F ∷ 0x65 ∷ 0xFF ∷ [])) ∷
-    (whole (0x3B ∷ 0x00 ∷ 0x00 ∷ 0x00 ∷ 0x00 ∷ 0x00 ∷ []) 0 ⇒ quiet "nothing" idle 6) ∷
-    (whole (0x00 ∷ []) 0 ⇒ quiet "nothing" idle 1) ∷
-    (whole (0xAB ∷ []) 0 ⇒ quiet "nothing" idle 1) ∷
-    (clocked 7 (0x06 ∷ []) 0 ⇒ quiet "nothing" idle 1) ∷
-    (clocked 9 (0x06 ∷ 0x00 ∷ []) 0 ⇒ quiet "nothing" idle 2) ∷
-    (whole [] 0 ⇒ quiet "nothing" idle 0) ∷
+    (whole (0x3B ∷ 0x00 ∷ 0x00 ∷ 0x00 ∷ 0x00 ∷ 0x00 ∷ []) 0 ⇒ nothing "unknown opcode" idle 6) ∷
+    (whole (0x00 ∷ []) 0 ⇒ nothing "unknown opcode" idle 1) ∷
+    (whole (0xAB ∷ []) 0 ⇒ nothing "already awake" idle 1) ∷
+    (clocked 7 (0x06 ∷ []) 0 ⇒ nothing "too few bits" idle 1) ∷
+    (clocked 9 (0x06 ∷ 0x00 ∷ []) 0 ⇒ nothing "off boundary" idle 2) ∷
+    (whole [] 0 ⇒ nothing "too few bits" idle 0) ∷
     [])
     []
 
@@ -56,18 +56,18 @@ latches =
 abbrev unlatched : Row
 unlatched =
     row idle 0x00
-    ((whole (0x02 ∷ 0x00 ∷ 0x00 ∷ 0x00 ∷ 0xFF ∷ []) 0 ⇒ quiet "nothing" idle 5) ∷
-    (whole (0x81 ∷ 0x00 ∷ 0x00 ∷ 0x00 ∷ []) 0 ⇒ quiet "nothing" idle 4) ∷
-    (whole (0x60 ∷ []) 0 ⇒ quiet "nothing" idle 1) ∷
-    (whole (0x9B ∷ 0x00 ∷ 0x00 ∷ 0x00 ∷ 0x00 ∷ []) 0 ⇒ quiet "nothing" idle 5) ∷
-    (whole (0x01 ∷ 0x84 ∷ []) 0 ⇒ quiet "nothing" idle 2) ∷
-    (whole (0x31 ∷ 0x10 ∷ []) 0 ⇒ quiet "nothing" idle 2) ∷
+    ((whole (0x02 ∷ 0x00 ∷ 0x00 ∷ 0x00 ∷ 0xFF ∷ []) 0 ⇒ nothing "latch clear" idle 5) ∷
+    (whole (0x81 ∷ 0x00 ∷ 0x00 ∷ 0x00 ∷ []) 0 ⇒ nothing "latch clear" idle 4) ∷
+    (whole (0x60 ∷ []) 0 ⇒ nothing "latch clear" idle 1) ∷
+    (whole (0x9B ∷ 0x00 ∷ 0x00 ∷ 0x00 ∷ 0x00 ∷ []) 0 ⇒ nothing "latch clear" idle 5) ∷
+    (whole (0x01 ∷ 0x84 ∷ []) 0 ⇒ nothing "latch clear" idle 2) ∷
+    (whole (0x31 ∷ 0x10 ∷ []) 0 ⇒ nothing "latch clear" idle 2) ∷
     [])
     []
 
 -- with WEL what is short or off a boundary is aborted, and WEL drops
 abbrev incomplete : List ℕ → ℕ → Exchange
-incomplete bytes n = whole bytes 0 ⇒ quiet "aborted" idle n
+incomplete bytes n = whole bytes 0 ⇒ aborted "incomplete" idle n
 
 abbrev enable : Exchange
 enable = whole (0x06 ∷ []) 0 ⇒ quiet "control" enabled 1
@@ -91,7 +91,7 @@ aborts =
     enable ∷
     incomplete (0x31 ∷ []) 1 ∷
     enable ∷
-    (clocked 9 (0x60 ∷ 0x00 ∷ []) 0 ⇒ quiet "aborted" idle 2) ∷
+    (clocked 9 (0x60 ∷ 0x00 ∷ []) 0 ⇒ aborted "off boundary" idle 2) ∷
     [])
     []
 
@@ -100,9 +100,9 @@ abbrev protected : Row
 protected =
     registered 128 [] (piece 2 3 0x77 ∷ [])
     (row (stands false true true 0) 0x00
-    ((whole (0x02 ∷ 0x00 ∷ 0x00 ∷ 0x00 ∷ 0xFF ∷ []) 0 ⇒ quiet "aborted" (stands false true false 0) 5) ∷
+    ((whole (0x02 ∷ 0x00 ∷ 0x00 ∷ 0x00 ∷ 0xFF ∷ []) 0 ⇒ aborted "protected" (stands false true false 0) 5) ∷
     (whole (0x06 ∷ []) 0 ⇒ quiet "control" (stands false true true 0) 1) ∷
-    (whole (0xC7 ∷ []) 0 ⇒ quiet "aborted" (stands false true false 0) 1) ∷
+    (whole (0xC7 ∷ []) 0 ⇒ aborted "protected" (stands false true false 0) 1) ∷
     (whole (0x06 ∷ []) 0 ⇒ quiet "control" (stands false true true 0) 1) ∷
     (whole (0x9B ∷ 0x00 ∷ 0x00 ∷ 0x02 ∷ 0x77 ∷ []) 0 ⇒ quiet "begun" (held false true false false true Awake 400) 5) ∷
     [])
@@ -139,7 +139,7 @@ otp =
     (whole (0x77 ∷ 0x12 ∷ 0x34 ∷ 0xFF ∷ 0x00 ∷ 0x00 ∷ 0x00 ∷ 0x00 ∷ []) 0 ⇒
     came "read" 6 2 (told false false true Awake 0) (0xFF ∷ 0xFF ∷ 0xFF ∷ 0xFF ∷ 0xFF ∷ 0xFF ∷ 0xFF ∷ 0xA2 ∷ [])) ∷
     (whole (0x06 ∷ []) 0 ⇒ quiet "control" (told true false true Awake 0) 1) ∷
-    (whole (0x9B ∷ 0x00 ∷ 0x00 ∷ 0x00 ∷ 0x00 ∷ []) 0 ⇒ quiet "aborted" (told false false true Awake 0) 5) ∷
+    (whole (0x9B ∷ 0x00 ∷ 0x00 ∷ 0x00 ∷ 0x00 ∷ []) 0 ⇒ aborted "already programmed" (told false false true Awake 0) 5) ∷
     [])
     [])
 
@@ -150,27 +150,29 @@ reset =
     ((whole (0x31 ∷ 0x10 ∷ []) 0 ⇒ quiet "control" (told false true false Awake 0) 2) ∷
     (whole (0x06 ∷ []) 0 ⇒ quiet "control" (told true true false Awake 0) 1) ∷
     (whole (0x20 ∷ 0x00 ∷ 0x00 ∷ 0x00 ∷ []) 0 ⇒ begun 0 0x1000 (told false true false Awake 50000) 4) ∷
-    (whole (0x03 ∷ 0x00 ∷ 0x00 ∷ 0x00 ∷ 0x00 ∷ []) 1 ⇒ quiet "nothing" (told false true false Awake 49999) 5) ∷
-    (whole (0x06 ∷ []) 0 ⇒ quiet "nothing" (told false true false Awake 49999) 1) ∷
+    (whole (0x03 ∷ 0x00 ∷ 0x00 ∷ 0x00 ∷ 0x00 ∷ []) 1 ⇒ nothing "busy" (told false true false Awake 49999) 5) ∷
+    (whole (0x06 ∷ []) 0 ⇒ nothing "busy" (told false true false Awake 49999) 1) ∷
     (whole (0x05 ∷ 0x00 ∷ 0x00 ∷ []) 0 ⇒ came "read" 1 2 (told false true false Awake 49999) (0xFF ∷ 0x11 ∷ 0x11 ∷ []))
     ∷
-    (whole (0xF0 ∷ 0xD1 ∷ []) 0 ⇒ quiet "nothing" (told false true false Awake 49999) 2) ∷
+    (whole (0xF0 ∷ 0xD1 ∷ []) 0 ⇒ nothing "reset not enabled or not confirmed" (told false true false Awake 49999) 2) ∷
     (whole (0xF0 ∷ 0xD0 ∷ []) 0 ⇒ quiet "control" (told false true false Awake 0) 2) ∷
     [])
     (piece 0 0x1000 0xFF ∷ [])
 
 -- a reset that RSTE does not enable is nothing
 abbrev no-reset : Row
-no-reset = row (busy 100) 0xFF ((whole (0xF0 ∷ 0xD0 ∷ []) 40 ⇒ quiet "nothing" (busy 60) 2) ∷ []) []
+no-reset =
+    row (busy 100) 0xFF
+    ((whole (0xF0 ∷ 0xD0 ∷ []) 40 ⇒ nothing "reset not enabled or not confirmed" (busy 60) 2) ∷ []) []
 
 -- deep power-down: only AB on a boundary is heard
 abbrev deep : Row
 deep =
     row idle 0xFF
-    ((clocked 9 (0xB9 ∷ 0x00 ∷ []) 0 ⇒ quiet "nothing" idle 2) ∷
+    ((clocked 9 (0xB9 ∷ 0x00 ∷ []) 0 ⇒ nothing "off boundary" idle 2) ∷
     (whole (0xB9 ∷ []) 0 ⇒ quiet "control" (told false false false Deep 0) 1) ∷
-    (whole (0x05 ∷ 0x00 ∷ []) 0 ⇒ quiet "nothing" (told false false false Deep 0) 2) ∷
-    (clocked 9 (0xAB ∷ 0x00 ∷ []) 0 ⇒ quiet "nothing" (told false false false Deep 0) 2) ∷
+    (whole (0x05 ∷ 0x00 ∷ []) 0 ⇒ nothing "asleep" (told false false false Deep 0) 2) ∷
+    (clocked 9 (0xAB ∷ 0x00 ∷ []) 0 ⇒ nothing "asleep" (told false false false Deep 0) 2) ∷
     (whole (0xAB ∷ 0x00 ∷ []) 0 ⇒ quiet "control" idle 2) ∷
     [])
     []
@@ -191,7 +193,7 @@ ultra =
 abbrev locked : Row
 locked =
     row (stands true true true 0) 0xFF
-    ((low (0x01 ∷ 0x00 ∷ []) 0 ⇒ quiet "aborted" (stands true true false 0) 2) ∷
+    ((low (0x01 ∷ 0x00 ∷ []) 0 ⇒ aborted "locked" (stands true true false 0) 2) ∷
     (low (0x06 ∷ []) 0 ⇒ quiet "control" (stands true true true 0) 1) ∷
     (whole (0x01 ∷ 0x00 ∷ []) 0 ⇒ quiet "begun" (stands false true false 20000) 2) ∷
     (whole (0x06 ∷ []) 20000 ⇒ quiet "control" (stands false true true 0) 1) ∷

@@ -1,5 +1,6 @@
 -- Rows of the modes and of what is not heard, worked by hand. Assumes nothing.
 use Prim.Native.Nat.{ℕ}
+use Prim.Native.String.{String}
 use mathlib.Core.Bool.{Bool, true, false}
 use mathlib.Core.List.{List, [], _∷_, _++_}
 use lib.ListN.{length}
@@ -8,18 +9,19 @@ use Rattle.device.specs.declared.Mode.{Mode}
 use Rattle.device.specs.declared.Mode.the-variants.{Awake, Deep, UltraDeep}
 use Rattle.worked.specs.Worked.{Sent, Exchange, Row}
 use Rattle.worked.specs.Frames.{latched, reads, orders, unlisted}
-use Rattle.worked.specs.Words.{held, idle, clocked, whole, low, pulled, quiet, _⇒_, unmoved, rousing, row}
+use Rattle.worked.specs.Words.{held, idle, clocked, whole, wholes, low, pulled, quiet, nothing, _⇒_, unmoved, rousing, row}
 
 -- B9 and AB change the mode alone, whatever the flags; in deep power-down AB alone is heard, on a boundary
 abbrev sleeps : (bpl bp0 wel rste used : Bool) → Row
 sleeps bpl bp0 wel rste used =
     row (held bpl bp0 wel rste used Awake 0) 0xFF
     ((low (0xB9 ∷ []) 0 ⇒ quiet "control" (held bpl bp0 wel rste used Deep 0) 1) ∷
-    unmoved "nothing" (held bpl bp0 wel rste used Deep 0)
-    (((0x05 ∷ 0x00 ∷ []) ∷ (0xF0 ∷ 0xD0 ∷ []) ∷ (0xAA ∷ []) ∷ (0xAC ∷ []) ∷ []) ++ latched ++ reads ++ orders) ++
-    ((clocked 7 (0xAB ∷ []) 0 ⇒ quiet "nothing" (held bpl bp0 wel rste used Deep 0) 1) ∷
-    (clocked 12 (0xAB ∷ 0x00 ∷ []) 0 ⇒ quiet "nothing" (held bpl bp0 wel rste used Deep 0) 2) ∷
-    (clocked 14 (0xAB ∷ 0x00 ∷ []) 0 ⇒ quiet "nothing" (held bpl bp0 wel rste used Deep 0) 2) ∷
+    unmoved (nothing "asleep") (held bpl bp0 wel rste used Deep 0)
+    (wholes
+    (((0x05 ∷ 0x00 ∷ []) ∷ (0xF0 ∷ 0xD0 ∷ []) ∷ (0xAA ∷ []) ∷ (0xAC ∷ []) ∷ []) ++ latched ++ reads ++ orders)) ++
+    ((clocked 7 (0xAB ∷ []) 0 ⇒ nothing "too few bits" (held bpl bp0 wel rste used Deep 0) 1) ∷
+    (clocked 12 (0xAB ∷ 0x00 ∷ []) 0 ⇒ nothing "asleep" (held bpl bp0 wel rste used Deep 0) 2) ∷
+    (clocked 14 (0xAB ∷ 0x00 ∷ []) 0 ⇒ nothing "asleep" (held bpl bp0 wel rste used Deep 0) 2) ∷
     (low (0xAB ∷ []) 0 ⇒ quiet "control" (held bpl bp0 wel rste used Awake 0) 1) ∷
     []))
     []
@@ -48,9 +50,13 @@ with-more code mode =
     ((whole (code ∷ 0x00 ∷ []) 0 ⇒ quiet "control" (held false false false false false mode 0) 2) ∷ [])
     []
 
--- off a boundary, by one bit to seven: 06 is nothing, and so are 04, B9 and 79; with WEL 1 or 0 it stays
+-- off a boundary, by one bit to seven: 06 is nothing, and so are 04, B9 and 79; with WEL 1 or 0 it stays; AB and F0 are
+-- nothing too, for other causes
+abbrev because : String → ℕ → ℕ → Device → Exchange
+because cause code bits d = clocked bits (code ∷ 0x00 ∷ []) 0 ⇒ nothing cause d 2
+
 abbrev off : ℕ → ℕ → Device → Exchange
-off code bits d = clocked bits (code ∷ 0x00 ∷ []) 0 ⇒ quiet "nothing" d 2
+off code bits d = because "off boundary" code bits d
 
 abbrev off-boundary : Row
 off-boundary =
@@ -62,23 +68,25 @@ off-boundary =
 abbrev off-boundary-flags : Device → Row
 off-boundary-flags d =
     row d 0xFF (off 0x04 12 d ∷ off 0x04 15 d ∷ off 0x06 12 d ∷ off 0xB9 12 d ∷ off 0xB9 10 d ∷ off 0x79 12 d ∷
-    off 0x79 14 d ∷ off 0xAB 12 d ∷ off 0xF0 12 d ∷ []) []
+    off 0x79 14 d ∷ because "already awake" 0xAB 12 d ∷ because "reset not enabled or not confirmed" 0xF0 12 d ∷ []) []
 
 -- awake, AB is nothing and so is every opcode that is not listed: WEL stays, and the other flags
 abbrev unheard : Device → Row
 unheard d =
     row d 0xFF
-    (unmoved "nothing" d (((0xAB ∷ []) ∷ (0xAB ∷ 0x00 ∷ []) ∷ (0x3B ∷ 0x00 ∷ 0x00 ∷ 0x00 ∷ 0x00 ∷ 0x00 ∷ []) ∷ []) ++
-    unlisted)) []
+    (unmoved (nothing "already awake") d (wholes ((0xAB ∷ []) ∷ (0xAB ∷ 0x00 ∷ []) ∷ [])) ++
+    unmoved (nothing "unknown opcode") d
+    (wholes ((0x3B ∷ 0x00 ∷ 0x00 ∷ 0x00 ∷ 0x00 ∷ 0x00 ∷ []) ∷ unlisted)))
+    []
 
 -- fewer than 8 bits are nothing, whatever their opcode would be
 abbrev too-few : Row
 too-few =
     row (held false true true true false Awake 3) 0xFF
-    ((clocked 7 (0x05 ∷ []) 0 ⇒ quiet "nothing" (held false true true true false Awake 3) 1) ∷
-    (clocked 7 (0x04 ∷ []) 3 ⇒ quiet "nothing" (held false true true true false Awake 0) 1) ∷
-    (clocked 7 (0x9F ∷ []) 0 ⇒ quiet "nothing" (held false true true true false Awake 0) 1) ∷
-    (clocked 1 (0x60 ∷ []) 0 ⇒ quiet "nothing" (held false true true true false Awake 0) 1) ∷
+    ((clocked 7 (0x05 ∷ []) 0 ⇒ nothing "too few bits" (held false true true true false Awake 3) 1) ∷
+    (clocked 7 (0x04 ∷ []) 3 ⇒ nothing "too few bits" (held false true true true false Awake 0) 1) ∷
+    (clocked 7 (0x9F ∷ []) 0 ⇒ nothing "too few bits" (held false true true true false Awake 0) 1) ∷
+    (clocked 1 (0x60 ∷ []) 0 ⇒ nothing "too few bits" (held false true true true false Awake 0) 1) ∷
     (clocked 8 (0x05 ∷ []) 0 ⇒ quiet "read" (held false true true true false Awake 0) 1) ∷
     [])
     []

@@ -6,8 +6,8 @@ use mathlib.Core.List.{List, [], _∷_}
 use Rattle.device.specs.declared.Device.{Device}
 use Rattle.device.specs.declared.Mode.the-variants.{Awake}
 use Rattle.worked.specs.Worked.{Sent, Row}
-use Rattle.worked.specs.Words.{held, idle, enabled, busy, clocked, whole, low, paced, came, quiet, begun, refused}
-use Rattle.worked.specs.Words.{_⇒_, piece, row, lasting}
+use Rattle.worked.specs.Words.{held, idle, enabled, busy, clocked, whole, low, paced, came, quiet, nothing, begun}
+use Rattle.worked.specs.Words.{refused, _⇒_, piece, row, lasting}
 
 -- a status read of five status bytes, at 8 ticks a position: 48 ticks in all
 abbrev poll : Sent
@@ -59,8 +59,8 @@ abbrev positions : Row
 positions =
     row (busy 100) 0xFF
     ((paced 8 (clocked 11 (0x05 ∷ 0x00 ∷ []) 0) ⇒ came "read" 1 1 (busy 84) (0xFF ∷ 0x1F ∷ [])) ∷
-    (paced 8 (clocked 1 (0x05 ∷ []) 0) ⇒ quiet "nothing" (busy 76) 1) ∷
-    (paced 1000 (whole [] 0) ⇒ quiet "nothing" (busy 76) 0) ∷
+    (paced 8 (clocked 1 (0x05 ∷ []) 0) ⇒ nothing "too few bits" (busy 76) 1) ∷
+    (paced 1000 (whole [] 0) ⇒ nothing "too few bits" (busy 76) 0) ∷
     [])
     []
 
@@ -69,7 +69,7 @@ positions =
 abbrev ignored : Row
 ignored =
     row (busy 10) 0x00
-    ((paced 8 (whole (0x03 ∷ 0x00 ∷ 0x00 ∷ 0x00 ∷ 0x00 ∷ []) 9) ⇒ quiet "nothing" idle 5) ∷
+    ((paced 8 (whole (0x03 ∷ 0x00 ∷ 0x00 ∷ 0x00 ∷ 0x00 ∷ []) 9) ⇒ nothing "busy" idle 5) ∷
     (paced 8 (whole (0x03 ∷ 0x00 ∷ 0x00 ∷ 0x00 ∷ 0x00 ∷ []) 0)
     ⇒ came "read" 4 1 idle (0xFF ∷ 0xFF ∷ 0xFF ∷ 0xFF ∷ 0x00 ∷ [])) ∷
     [])
@@ -95,7 +95,7 @@ resettable wel busy = held false false wel true false Awake busy
 abbrev resets : Row
 resets =
     row (resettable true 100) 0xFF
-    ((paced 8 (whole (0xF0 ∷ 0xD1 ∷ []) 0) ⇒ quiet "nothing" (resettable true 84) 2) ∷
+    ((paced 8 (whole (0xF0 ∷ 0xD1 ∷ []) 0) ⇒ nothing "reset not enabled or not confirmed" (resettable true 84) 2) ∷
     (paced 8 (whole (0xF0 ∷ 0xD0 ∷ []) 0) ⇒ quiet "control" (resettable false 0) 2) ∷
     [])
     []

@@ -8,7 +8,7 @@ use Rattle.device.specs.declared.Device.{Device}
 use Rattle.device.specs.declared.Mode.the-variants.{Awake}
 use Rattle.worked.specs.Worked.{Exchange, Piece, Row}
 use Rattle.worked.specs.Words.{held, idle, busy, worn, counting, clocked, whole, low, pulled, paced, header, came}
-use Rattle.worked.specs.Words.{quiet, _⇒_, unmoved, piece, rising, row, sized, holding}
+use Rattle.worked.specs.Words.{wholes, quiet, _⇒_, unmoved, piece, rising, row, sized, holding}
 
 -- Reads, of an array that holds 11h but here: at its beginning, around 010000h, at its end, and at two places that one
 -- address bit tells apart
@@ -74,7 +74,8 @@ reads-a-page =
 abbrev short-reads : Device → Row
 short-reads d =
     row d 0x11
-    (unmoved "read" d
+    (unmoved (quiet "read") d
+    (wholes
     ((0x03 ∷ []) ∷
     (0x03 ∷ 0x00 ∷ []) ∷
     (0x0B ∷ []) ∷
@@ -85,7 +86,7 @@ short-reads d =
     (0x05 ∷ []) ∷
     (0x9F ∷ []) ∷
     (0x15 ∷ []) ∷
-    []) ++
+    [])) ++
     ((low (0x9F ∷ 0x00 ∷ []) 0 ⇒ came "read" 1 1 d (0xFF ∷ 0x1F ∷ [])) ∷
     (whole (0x9F ∷ 0x00 ∷ 0x00 ∷ []) 0 ⇒ came "read" 1 2 d (0xFF ∷ 0x1F ∷ 0x42 ∷ [])) ∷
     (low (0x9F ∷ 0x00 ∷ 0x00 ∷ 0x00 ∷ []) 0 ⇒ came "read" 1 3 d (0xFF ∷ 0x1F ∷ 0x42 ∷ 0x00 ∷ [])) ∷

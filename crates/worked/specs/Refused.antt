@@ -58,8 +58,8 @@ room =
     row enabled 0x00
     ((given 0 erase ⇒ spared 5 enabled 0) ∷
     (given 1 (low (0x60 ∷ 0x00 ∷ []) 5) ⇒ spared 5 enabled 1) ∷
-    (given 2 (low (0x05 ∷ 0x00 ∷ []) 5) ⇒ filled "read" 1 1 enabled (0xFF ∷ 0x02 ∷ [])) ∷
-    (given 0 (whole [] 5) ⇒ filled "nothing" 0 0 enabled []) ∷
+    (given 2 (low (0x05 ∷ 0x00 ∷ []) 5) ⇒ filled "read" "none" 1 1 enabled (0xFF ∷ 0x02 ∷ [])) ∷
+    (given 0 (whole [] 5) ⇒ filled "nothing" "too few bits" 0 0 enabled []) ∷
     [])
     []
 

@@ -3,7 +3,7 @@
 use Prim.Native.Nat.{ℕ, zero, suc, _+_, _-_, _*_, _%_}
 use Prim.Native.String.{String}
 use mathlib.Core.Bool.{Bool, true, false}
-use mathlib.Core.List.{List, [], _∷_, _++_}
+use mathlib.Core.List.{List, [], _∷_, _++_, map}
 use lib.ListN.{length, replicate}
 use Rattle.device.specs.declared.Device.{Device}
 use Rattle.device.specs.declared.Mode.{Mode}
@@ -69,13 +69,25 @@ given room s =
 abbrev pub low : List ℕ → ℕ → Sent
 low bytes elapsed = pulled (whole bytes elapsed)
 
--- what comes back: the number, the outcome, the driven positions, the range of the array that was covered, and the
--- record
-abbrev replies : ℕ → String → ℕ → ℕ → Range → Device → List ℕ → Came
-replies number outcome first driven covered d output =
+-- some frames of whole bytes, one straight after the other
+abbrev pub wholes : List (List ℕ) → List Sent
+wholes frames = map (λ (bytes : List ℕ). whole bytes 0) frames
+
+-- what comes back: the number, the outcome and its cause, the driven positions, the range of the array that was
+-- covered, and the record
+abbrev replies : ℕ → String → String → ℕ → ℕ → Range → Device → List ℕ → Came
+replies number outcome cause first driven covered d output =
     record {
       reply =
-          record { refusal = number; outcome = outcome; first = first; driven = driven; covered = covered; device = d };
+          record {
+            refusal = number;
+            outcome = outcome;
+            cause = cause;
+            first = first;
+            driven = driven;
+            covered = covered;
+            device = d;
+          };
       output = output;
     }
 
@@ -83,25 +95,32 @@ replies number outcome first driven covered d output =
 abbrev pub header : List ℕ
 header = 0xFF ∷ 0xFF ∷ 0xFF ∷ 0xFF ∷ []
 
--- from an accepted call that covers nothing; the byte after the frame's last is not written
+-- from an accepted call that covers nothing, with the outcome and its cause; of a buffer that is no longer than the
+-- frame
+abbrev pub filled : String → String → ℕ → ℕ → Device → List ℕ → Came
+filled outcome cause first driven d output = replies 0 outcome cause first driven nowhere d output
+
+-- the same of a buffer whose byte after the frame's last is not written; an outcome that has no cause
 abbrev pub came : String → ℕ → ℕ → Device → List ℕ → Came
-came outcome first driven d output = replies 0 outcome first driven nowhere d (output ++ (canary ∷ []))
+came outcome first driven d output = filled outcome "none" first driven d (output ++ (canary ∷ []))
 
--- the same of a buffer that is no longer than the frame
-abbrev pub filled : String → ℕ → ℕ → Device → List ℕ → Came
-filled outcome first driven d output = replies 0 outcome first driven nowhere d output
-
--- nothing driven: n bytes of FFh
+-- nothing driven, n bytes of FFh: an outcome that has no cause; nothing, or aborted, for a cause
 abbrev pub quiet : String → Device → ℕ → Came
 quiet outcome d n = came outcome 0 0 d (replicate n 0xFF)
 
+abbrev pub nothing : String → Device → ℕ → Came
+nothing cause d n = filled "nothing" cause 0 0 d (replicate n 0xFF ++ (canary ∷ []))
+
+abbrev pub aborted : String → Device → ℕ → Came
+aborted cause d n = filled "aborted" cause 0 0 d (replicate n 0xFF ++ (canary ∷ []))
+
 -- an operation on the array was begun that covers the places from `from` up to `to`
 abbrev pub begun : ℕ → ℕ → Device → ℕ → Came
-begun from to d n = replies 0 "begun" 0 0 (span from to) d (replicate n 0xFF ++ (canary ∷ []))
+begun from to d n = replies 0 "begun" "none" 0 0 (span from to) d (replicate n 0xFF ++ (canary ∷ []))
 
--- from a refused one: the record as it came in, and the bytes lent as they were: so many, or n and one more
+-- from a refused one: no cause, the record as it came in, and the bytes lent as they were: so many, or n and one more
 abbrev pub spared : ℕ → Device → ℕ → Came
-spared number d room = replies number "nothing" 0 0 nowhere d (replicate room canary)
+spared number d room = replies number "nothing" "none" 0 0 nowhere d (replicate room canary)
 
 abbrev pub refused : ℕ → Device → ℕ → Came
 refused number d n = spared number d (n + 1)
@@ -110,19 +129,19 @@ infixr 5 _⇒_
 abbrev pub _⇒_ : Sent → Came → Exchange
 _⇒_ sent came = record { sent = sent; came = came }
 
--- each of some frames of whole bytes is answered quietly, and the record stays
-unfoldable pub unmoved : String → Device → List (List ℕ) → List Exchange
-unmoved outcome d [] = []
-unmoved outcome d (bytes ∷ frames) = (whole bytes 0 ⇒ quiet outcome d (length bytes)) ∷ unmoved outcome d frames
+-- each of some frames is answered alike and quietly, and the record stays
+unfoldable pub unmoved : (Device → ℕ → Came) → Device → List Sent → List Exchange
+unmoved alike d [] = []
+unmoved alike d (sent ∷ frames) = (sent ⇒ alike d (length (sent .bytes))) ∷ unmoved alike d frames
 
--- each of some frames, of whose last byte so many bits are not clocked, is aborted and drops WEL, which 06 then sets
--- again; WP is high or low
-unfoldable pub aborting : Bool → ℕ → Device → Device → List (List ℕ) → List Exchange
-aborting wp cut enabled dropped [] = []
-aborting wp cut enabled dropped (bytes ∷ frames) =
-    (levelled wp (clocked (8 * length bytes - cut) bytes 0) ⇒ quiet "aborted" dropped (length bytes)) ∷
+-- each of some frames, of whose last byte so many bits are not clocked, is aborted for a cause and drops WEL, which 06
+-- then sets again; WP is high or low
+unfoldable pub aborting : String → Bool → ℕ → Device → Device → List (List ℕ) → List Exchange
+aborting cause wp cut enabled dropped [] = []
+aborting cause wp cut enabled dropped (bytes ∷ frames) =
+    (levelled wp (clocked (8 * length bytes - cut) bytes 0) ⇒ aborted cause dropped (length bytes)) ∷
     (levelled wp (whole (0x06 ∷ []) 0) ⇒ quiet "control" enabled 1) ∷
-    aborting wp cut enabled dropped frames
+    aborting cause wp cut enabled dropped frames
 
 -- 79h leads to ultra-deep power-down, and each of some frames leads back
 unfoldable pub rousing : Device → Device → List (List ℕ) → List Exchange
