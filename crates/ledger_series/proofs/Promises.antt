@@ -3,15 +3,18 @@ use Prim.Native.Nat.{ℕ, _<_}
 use mathlib.Core.List.{List, map}
 use mathlib.Core.Path.{_≡_, refl, sym, ap, _∙_}
 use lib.ListN.{length, getD}
+use lib.Text.{eqt}
 use Rattle.runs.specs.Run as run
 use Rattle.runs.proofs.Laws.{one-end, one-gathered, one-ran}
+use Rattle.calls.specs.declared.Signals.{Signals}
+use Rattle.part.specs.Frame.{Reply}
 use Rattle.series.specs.Turns as turns
 use Rattle.series.specs.Turns.{Turn, callOf, lengthsOf}
 use Rattle.series.specs.Series as series
 use Rattle.series.specs.Series.{State}
 use Rattle.operations.specs.Bytes.{since, bytesAt, andAll, startAt}
 use Rattle.series.proofs.Promises as series-proofs
-use Rattle.ledger.specs.Ledger.{empty}
+use Rattle.ledger.specs.Ledger.{Ledger, empty, booked}
 use Rattle.ledger_frame.specs.Frame.{Result}
 use Rattle.ledger_frame.proofs.Frames.{nine-exactly}
 use Rattle.ledger_series.specs.Entries.{lastLedger}
@@ -56,6 +59,12 @@ billed-by-the-code bs t u cs account r e low =
     ap (λ (v : Desk). v .ledger) (as-the-code-does bs t u cs r .1) ∙ (as-computed bs t .2 ∙ ap (lastLedger (entriesOf bs) (t .state .device)) e) in
     rw last (from-empty (entriesOf bs) (t .state .device) account low)
 
+begun-alone : (busy : ℕ) (signals : Signals) (a b : Reply) (account : ℕ) (l : Ledger) → a .refusal ≡ b .refusal
+    → eqt (a .outcome) "begun" ≡ eqt (b .outcome) "begun" → a .device .busy ≡ b .device .busy
+    → booked busy signals a account l ≡ booked busy signals b account l
+unfolding booked
+begun-alone busy signals a b account l refusal begun left = rw (refusal, begun, left)
+
 pub promises : Promises
 promises =
     record {
@@ -75,6 +84,7 @@ promises =
       all-together-from-any = together;
       whoever-polls = whoever-polls;
       refused-changes-nothing = refused-changes-nothing;
+      begun-alone = begun-alone;
       as-the-part = as-the-part;
       answers-as-the-part = answers-as-the-part;
       as-computed = as-computed;

@@ -3,7 +3,8 @@ use mathlib.Core.Path.{refl}
 use Rattle.runs.specs.Run as run
 use Rattle.opcodes.specs.Rows.{rowOf, rows, lookup}
 use Rattle.settings.specs.Settings.{anyUnfair}
-use Rattle.judge.specs.Judging.{judged, byOpcode}
+use Rattle.judge.specs.Causes.{causeOf}
+use Rattle.judge.specs.Judging.{judged, ended}
 use Rattle.calls.specs.Refusal.{refusalOf}
 use Rattle.part.specs.Frame as part
 use Rattle.ledger_frame.specs.Frame.{replied}
@@ -12,7 +13,7 @@ use Rattle.ledger_series.specs.Worked.{Worked}
 
 pub worked : Worked
 unfolding run.end run.gathered replied booked aboveBefore part.replied part.numberFor part.judgedOf refusalOf anyUnfair
-    judged byOpcode rowOf rows lookup
+    judged ended causeOf rowOf rows lookup
 worked =
     record {
       at-the-limit = refl;

@@ -7,7 +7,9 @@ use mathlib.Core.List.{List, _∷_, _++_, map}
 use mathlib.Core.Logic.{_≢_}
 use mathlib.Core.Path.{_≡_}
 use lib.ListN.{length, getD}
+use lib.Text.{eqt}
 use Rattle.device.specs.declared.Device.{Device}
+use Rattle.calls.specs.declared.Signals.{Signals}
 use Rattle.part.specs.Frame.{Call, Reply, numberFor, replyOf}
 use Rattle.operations.specs.Operations.{Operation}
 use Rattle.series.specs.Turns as turns
@@ -124,6 +126,11 @@ pub record Promises : Type 0 where
       → replyTo e (lastRecord before d l) (lastLedger before d l) .refusal ≢ 0
       → (lastLedger (before ++ e ∷ after) d l ≡ lastLedger (before ++ after) d l)
       × (lastRecord (before ++ e ∷ after) d l ≡ lastRecord (before ++ after) d l)
+  -- The ledger reads of the outcome whether it is begun, and nothing else: no cause, and nothing of what was driven or
+  -- covered.
+  pub begun-alone : (busy : ℕ) (signals : Signals) (a b : Reply) (account : ℕ) (l : Ledger)
+      → a .refusal ≡ b .refusal → eqt (a .outcome) "begun" ≡ eqt (b .outcome) "begun" → a .device .busy
+      ≡ b .device .busy → booked busy signals a account l ≡ booked busy signals b account l
   -- Demand 3, through the ledger. On memories, the calls that the ledger lets through are a series as it stands without
   -- one: what that promises of array and register holds of it.
   pub as-the-part : (bs : List Booking) (t : Desk) → end bs t .state ≡ series.end (stepsThrough bs t) (t .state)

@@ -180,6 +180,7 @@ pub record Worked : Type 0 where
       ≡ record {
         refusal = 9;
         outcome = "nothing";
+        cause = "none";
         first = 0;
         driven = 0;
         covered = record { from = 0; to = 0 };

@@ -41,7 +41,8 @@ byte : (ss : List Step) (k : ℕ) → k < 131072 → getD (end ss begins .array)
 byte ss k l = ap (λ (xs : List ℕ). getD xs k 0) (promises .as-carried-out ss begins) ∙ byte-after (effects ss begins) k l
 
 pub example : Example
-unfolding run.gathered replied numberFor refusalOf anyUnfair judgedOf judged ended causeOf rowOf rows lookup through over covered last erasedIn since bytesAt
+unfolding run.gathered replied numberFor refusalOf anyUnfair judgedOf judged ended causeOf rowOf rows lookup through
+    over covered last erasedIn since bytesAt
 example =
     record {
       refusals = told (λ (r : Reply). r .refusal);
@@ -61,7 +62,8 @@ differs u xs k x y e a b n same =
     n (sym a ∙ (ap (λ (t : State). getD (t .array) k 0) (sym e) ∙ (ap (λ (ys : List ℕ). getD ys k 0) same ∙ b)))
 
 pub shut-out : (u : State) (cs : List Made) → Ran steps begins cs u → ShutOut u
-unfolding run.gathered replied numberFor refusalOf anyUnfair judgedOf judged ended causeOf rowOf rows lookup through over covered last
+unfolding run.gathered replied numberFor refusalOf anyUnfair judgedOf judged ended causeOf rowOf rows lookup through
+    over covered last
 shut-out u cs r =
     let e = promises .as-the-code-does steps begins u cs r .1 in
     record {

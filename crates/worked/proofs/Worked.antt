@@ -31,6 +31,7 @@ use Rattle.worked.specs.Modes.{modes}
 use Rattle.worked.specs.Data.{data-rows}
 use Rattle.worked.specs.Reads.{read-rows}
 use Rattle.worked.specs.Refused.{refused-rows}
+use Rattle.worked.specs.Causes.{each-aborted, cause-rows}
 use Rattle.worked.specs.Rows.{Rows}
 use Rattle.worked.proofs.Computed.{Told, sceneOf, repliesOf, wantedOf, fittingIn, fitting, allFitting}
 use Rattle.worked.proofs.Computed.{everywhere, halved, agrees, steadyOperations, steadyPiece, steadyPieces}
@@ -96,19 +97,46 @@ each-holds (r ∷ rs) e f =
     let w : (fitting r ≡ true) × (allFitting rs ≡ true) = and-eq-true-iff (fitting r) (allFitting rs) .0 f in
     (row-holds r (ap (λ (l : List (List Came)). getD l 0 []) e) (w .0), each-holds rs (ap tail e) (w .1))
 
-pub all-rows : Rows
-unfolding table further polls flags modes data-rows read-rows refused-rows unmoved rousing aborting counting bytes
+-- the tables in three parts, each within the prover's limit of steps
+most-hold : EachWorked table × EachWorked further × EachWorked polls × EachWorked flags × EachWorked read-rows
+    × EachWorked refused-rows
+unfolding table further polls flags read-rows refused-rows unmoved counting
     repliesOf wantedOf fittingIn fitting allFitting agrees everywhere halved steadyOperations steadyPiece steadyPieces
     steadyFor one-side apart inside through painted run.end run.gathered cameTold next replied numberFor refusalOf
     anyUnfair judgedOf judged ended causeOf rowOf rows lookup readAt each eachFrom over covered last
+most-hold = (
+  each-holds table refl refl,
+  each-holds further refl refl,
+  each-holds polls refl refl,
+  each-holds flags refl refl,
+  each-holds read-rows refl refl,
+  each-holds refused-rows refl refl,
+)
+
+data-hold : EachWorked data-rows
+unfolding data-rows unmoved aborting counting bytes
+    repliesOf wantedOf fittingIn fitting allFitting agrees everywhere halved steadyOperations steadyPiece steadyPieces
+    steadyFor one-side apart inside through painted run.end run.gathered cameTold next replied numberFor refusalOf
+    anyUnfair judgedOf judged ended causeOf rowOf rows lookup readAt each eachFrom over covered last
+data-hold = each-holds data-rows refl refl
+
+causes-hold : EachWorked modes × EachWorked cause-rows
+unfolding modes cause-rows unmoved rousing each-aborted counting
+    repliesOf wantedOf fittingIn fitting allFitting agrees everywhere halved steadyOperations steadyPiece steadyPieces
+    steadyFor one-side apart inside through painted run.end run.gathered cameTold next replied numberFor refusalOf
+    anyUnfair judgedOf judged ended causeOf rowOf rows lookup readAt each eachFrom over covered last
+causes-hold = (each-holds modes refl refl, each-holds cause-rows refl refl)
+
+pub all-rows : Rows
 all-rows =
     record {
-      worked-table = each-holds table refl refl;
-      worked-further = each-holds further refl refl;
-      worked-polls = each-holds polls refl refl;
-      worked-flags = each-holds flags refl refl;
-      worked-modes = each-holds modes refl refl;
-      worked-data = each-holds data-rows refl refl;
-      worked-reads = each-holds read-rows refl refl;
-      worked-refused = each-holds refused-rows refl refl;
+      worked-table = most-hold .0;
+      worked-further = most-hold .1;
+      worked-polls = most-hold .2;
+      worked-flags = most-hold .3;
+      worked-modes = causes-hold .0;
+      worked-data = data-hold;
+      worked-reads = most-hold .4;
+      worked-refused = most-hold .5;
+      worked-causes = causes-hold .1;
     }

@@ -8,9 +8,9 @@ use Rattle.device.specs.declared.Device.{Device}
 use Rattle.device.specs.declared.Mode.the-variants.{Awake}
 use Rattle.worked.specs.Worked.{Exchange, Piece, Row}
 use Rattle.worked.specs.Frames.{latched, longer, on-array, above, reads, orders}
-use Rattle.worked.specs.Words.{held, stands, idle, enabled, busy, worn, counting, clocked, whole, wholes, low, paced}
-use Rattle.worked.specs.Words.{header, came, quiet, nothing, aborted, begun, _⇒_, unmoved, aborting, piece, rising, bytes, row}
-use Rattle.worked.specs.Words.{lasting, sized, registered}
+use Rattle.worked.specs.Words.{held, stands, idle, enabled, busy, worn, counting, clocked, whole, low, wholes}
+use Rattle.worked.specs.Words.{paced, header, came, quiet, nothing, aborted, begun, _⇒_, unmoved, aborting}
+use Rattle.worked.specs.Words.{piece, rising, bytes, row, lasting, sized, registered}
 
 -- with WEL 0 none is carried out, whatever the other flags
 abbrev without-wel : Device → Row
@@ -30,12 +30,14 @@ while-busy d =
 abbrev cut-by-four : Row
 cut-by-four =
     row (held true false true true false Awake 0) 0x00
-    (aborting "off boundary" true 4 (held true false true true false Awake 0) (held true false false true false Awake 0) longer) []
+    (aborting "off boundary" true 4 (held true false true true false Awake 0) (held true false false true false Awake 0)
+    longer) []
 
 abbrev cut-by-six : Row
 cut-by-six =
     row (held false true true false true Awake 0) 0x00
-    (aborting "off boundary" true 6 (held false true true false true Awake 0) (held false true false false true Awake 0) longer) []
+    (aborting "off boundary" true 6 (held false true true false true Awake 0) (held false true false false true Awake 0)
+    longer) []
 
 abbrev cut-by-one : Row
 cut-by-one = row enabled 0x00 (aborting "off boundary" true 1 enabled idle longer) []
@@ -43,7 +45,8 @@ cut-by-one = row enabled 0x00 (aborting "off boundary" true 1 enabled idle longe
 -- protected by BP0: neither BPL nor WP bears on it, nor the address
 abbrev guarded-array : Bool → Bool → List (List ℕ) → Row
 guarded-array bpl wp frames =
-    row (stands bpl true true 0) 0x00 (aborting "protected" wp 0 (stands bpl true true 0) (stands bpl true false 0) frames) []
+    row (stands bpl true true 0) 0x00
+    (aborting "protected" wp 0 (stands bpl true true 0) (stands bpl true false 0) frames) []
 
 abbrev worn-enabled : Device
 worn-enabled = held true false true true true Awake 0
@@ -197,7 +200,8 @@ abbrev otp-used : Row
 otp-used =
     registered 128 made []
     (row (held false true true true true Awake 0) 0xFF
-    ((whole (0x9B ∷ 0x00 ∷ 0x00 ∷ 0x00 ∷ 0x00 ∷ []) 0 ⇒ aborted "already programmed" (held false true false true true Awake 0) 5) ∷
+    ((whole (0x9B ∷ 0x00 ∷ 0x00 ∷ 0x00 ∷ 0x00 ∷ []) 0 ⇒
+    aborted "already programmed" (held false true false true true Awake 0) 5) ∷
     [])
     [])
 

@@ -9,6 +9,7 @@ pub mod Modes
 pub mod Data
 pub mod Reads
 pub mod Refused
+pub mod Causes
 pub mod Rows
 pub mod Example
 pub mod Looks

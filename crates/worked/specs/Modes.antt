@@ -9,7 +9,8 @@ use Rattle.device.specs.declared.Mode.{Mode}
 use Rattle.device.specs.declared.Mode.the-variants.{Awake, Deep, UltraDeep}
 use Rattle.worked.specs.Worked.{Sent, Exchange, Row}
 use Rattle.worked.specs.Frames.{latched, reads, orders, unlisted}
-use Rattle.worked.specs.Words.{held, idle, clocked, whole, wholes, low, pulled, quiet, nothing, _⇒_, unmoved, rousing, row}
+use Rattle.worked.specs.Words.{held, idle, clocked, whole, low, pulled, wholes, quiet, nothing, _⇒_}
+use Rattle.worked.specs.Words.{unmoved, rousing, row}
 
 -- B9 and AB change the mode alone, whatever the flags; in deep power-down AB alone is heard, on a boundary
 abbrev sleeps : (bpl bp0 wel rste used : Bool) → Row

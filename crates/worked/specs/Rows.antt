@@ -8,6 +8,7 @@ use Rattle.worked.specs.Modes.{modes}
 use Rattle.worked.specs.Data.{data-rows}
 use Rattle.worked.specs.Reads.{read-rows}
 use Rattle.worked.specs.Refused.{refused-rows}
+use Rattle.worked.specs.Causes.{cause-rows}
 
 pub record Rows : Type 0 where
   -- P1 to P10, the session and the limits
@@ -26,3 +27,5 @@ pub record Rows : Type 0 where
   pub worked-reads : EachWorked read-rows
   -- the refusals, at their limits and in their order
   pub worked-refused : EachWorked refused-rows
+  -- why nothing came of a frame
+  pub worked-causes : EachWorked cause-rows

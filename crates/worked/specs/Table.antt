@@ -6,8 +6,8 @@ use lib.ListN.{replicate}
 use Rattle.device.specs.declared.Device.{Device}
 use Rattle.device.specs.Device.{fresh}
 use Rattle.worked.specs.Worked.{Exchange, Row}
-use Rattle.worked.specs.Words.{stands, idle, enabled, busy, clocked, whole, low, came, quiet, aborted, begun, refused}
-use Rattle.worked.specs.Words.{_⇒_, piece, row, sized, lasting}
+use Rattle.worked.specs.Words.{stands, idle, enabled, busy, clocked, whole, low, came, quiet}
+use Rattle.worked.specs.Words.{aborted, begun, refused, _⇒_, piece, row, sized, lasting}
 
 -- a fresh record with BPL and BP0 0
 abbrev clear : Device
@@ -49,7 +49,8 @@ p3 =
 -- P4: a program of 39 bits is aborted and changes no byte; one of 40 bits begins
 abbrev p4-short : Row
 p4-short =
-    row clear 0xFF (write-enable ∷ (clocked 39 (0x02 ∷ 0x00 ∷ 0x00 ∷ 0x00 ∷ 0x00 ∷ []) 0 ⇒ aborted "off boundary" idle 5) ∷ [])
+    row clear 0xFF
+    (write-enable ∷ (clocked 39 (0x02 ∷ 0x00 ∷ 0x00 ∷ 0x00 ∷ 0x00 ∷ []) 0 ⇒ aborted "off boundary" idle 5) ∷ [])
     []
 
 abbrev p4-whole : Row
