@@ -85,10 +85,10 @@ module _ (t : Turn) (d : Device) where
       means : takesEffect (callOf t d) (lengthsOf t) ≡ true → meansArray (rowOf (f .code) .command) ≡ true
       means e =
           let readied = and-eq-true-iff (eqb number 0) _ .0 e .1 in
-          let idle = and-eq-true-iff (awake (risen (callOf t d) .mode)) _ .0 readied .1 in
-          let whole = and-eq-true-iff (not (f .busy)) _ .0 idle .1 in
-          let opcode = and-eq-true-iff (not (ltb (f .bits) 8)) _ .0 whole .1 in
-          and-eq-true-iff (meansArray (rowOf (f .code) .command)) _ .0 opcode .0
+          let whole = and-eq-true-iff (not (ltb (f .bits) 8)) _ .0 readied .1 in
+          let roused = and-eq-true-iff (awake (risen (callOf t d) .mode)) _ .0 whole .1 in
+          let idle = and-eq-true-iff (not (f .busy)) _ .0 roused .1 in
+          and-eq-true-iff (meansArray (rowOf (f .code) .command)) _ .0 idle .0
 
       by : (b : Bool) → takesEffect (callOf t d) (lengthsOf t) ≡ b → allWork (cond b (operationOf (callOf t d) (lengthsOf t) ∷ []) []) ≡ true
       by true e = rw (asked-works (rowOf (f .code) .command) (t .array) (t .input) (means e))
