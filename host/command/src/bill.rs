@@ -38,15 +38,18 @@ bill has a row for each account that began an operation or was billed, with a ba
        12        50,000                   50,000            1   #
       all     1,650,012                1,600,000            3
 
+After it comes whose frames came to nothing or were aborted, if some did: by account and cause, with the first of them
+and what to do. These are the frames read now; a state does not keep them.
+
 Options:
 {PART_HELP}{STATE_HELP}{UNSAID_HELP}  --close             closes a month: the bill is written, then the books of --state are emptied and saved. The state
                       as it was stays beside it, as FILE.closed-TICK. An operation that is running stays its
                       account's: its ticks before the close and its number are in the old bill, its ticks after it in
                       the new one, whose most for one operation counts these alone. If the bill cannot be written, the
                       books stay as they were. A server that uses the state has to be ended first
-  --csv               comma-separated values in place of the table, with the heads account,total,most,operations
-  --html OUT          beside the table or --csv, the bill as a page for a browser goes to OUT, whole: a line for each
-                      operation, with its frame, what it was billed, and who sent frames while it ran
+  --csv               comma-separated values in place of all this, with the heads account,total,most,operations
+  --html OUT          beside the table or --csv, the bill as a page for a browser goes to OUT, whole: also a line for
+                      each operation, with its frame, what it was billed, and who sent frames while it ran
 "
     )
 }

@@ -1,21 +1,27 @@
 //! The command `oxterin`: the proved part for people at a bench.
 #![forbid(unsafe_code)]
 
+mod advice;
 mod begin;
 mod bill;
 mod books;
+mod columns;
 mod complaint;
 mod desk;
 mod frames;
 mod fresh;
+mod glimpse;
 mod hex;
 mod hex_fault;
+mod history;
 mod image;
 mod lines;
+mod missed;
 mod options;
 mod page;
 mod paths;
 mod progress;
+mod remedy;
 mod run;
 mod serve;
 mod session;
@@ -24,6 +30,7 @@ mod state;
 mod table;
 mod tally;
 mod whole;
+mod why;
 
 use complaint::{complain, complaint, settle, Complaint};
 use std::io::{self, Write};
@@ -36,6 +43,7 @@ Usage: oxterin COMMAND [OPTIONS]
 
   session     the built-in session of four frames
   run         frames from a file or standard input, answered line by line
+  why         the same frames, and why some came to nothing or were aborted
   bill        frames from a file or standard input, and which account pays for the busy time
   serve       the part behind the serprog protocol, for flashrom and other clients
   state       a part with its books in one file, shown or made
@@ -87,6 +95,7 @@ fn obey(words: &[String]) -> Result<(), Complaint> {
         "--version" | "-V" => say(&version()),
         "session" if asks_help => say(session::HELP),
         "run" if asks_help => say(&run::help()),
+        "why" if asks_help => say(&why::help()),
         "bill" if asks_help => say(&bill::help()),
         "serve" if asks_help => say(&serve::help()),
         "state" if asks_help => say(&books::help()),
@@ -94,12 +103,13 @@ fn obey(words: &[String]) -> Result<(), Complaint> {
         "session" if rest.is_empty() => say(&session::lines()?),
         "session" => Err(complaint(format!("session takes nothing after it, and was given {}", rest[0]))),
         "run" => run::run(rest),
+        "why" => why::why(rest),
         "bill" => bill::bill(rest),
         "serve" => serve::serve(rest),
         "state" => books::state(rest),
         "hex" => hex::hex(rest),
         other => Err(complaint(format!(
-            "unknown command {other}; there are session, run, bill, serve, state and hex"
+            "unknown command {other}; there are session, run, why, bill, serve, state and hex"
         ))),
     }
 }

@@ -1,8 +1,12 @@
 //! A bill as one page for a browser, with nothing that has to be fetched.
+use crate::advice::{flawless, headline};
 use crate::desk::Desk;
+use crate::glimpse::Glimpse;
 use crate::lines::{counted, hex, thousands};
+use crate::missed::Kind;
+use crate::remedy::{remedy, AFTER_AN_ABORT};
 use crate::tally::{End, Operation, Tally};
-use oxterin::Line;
+use oxterin::{Cause, Line};
 use std::path::Path;
 
 /// How the page looks, in light and dark, on a wide screen, a narrow one and paper.
@@ -35,7 +39,7 @@ pub fn page(name: &str, tally: &Tally) -> String {
          <h1>Bill of <bdi>{name}</bdi></h1>\n\
          <p class=\"summary\">{summary}</p>\n\
          {facts}</header>\n\
-         {accounts}{operations}\
+         {accounts}{causes}{operations}\
          </main>\n\
          <footer>\n\
          <h2>How billing works</h2>\n\
@@ -46,6 +50,7 @@ pub fn page(name: &str, tally: &Tally) -> String {
         summary = summary(desk, &accounts),
         facts = facts(desk),
         accounts = accounts_table(desk, &accounts),
+        causes = causes_table(tally),
         operations = operations_table(tally),
     )
 }
@@ -173,6 +178,52 @@ fn share(part: u64, all: u128) -> String {
     }
 }
 
+/// A row for each account and cause for which frames of this run were not carried out; nothing if all were.
+fn causes_table(tally: &Tally) -> String {
+    let missed = &tally.missed;
+    if missed.is_empty() {
+        return String::new();
+    }
+    let rows: String = missed.by_account().map(cause_row).collect();
+    format!(
+        "<section>\n\
+         <h2>Frames that were not carried out</h2>\n\
+         <p class=\"note\">{}</p>\n\
+         <table class=\"causes\">\n\
+         <thead>\n\
+         <tr><th class=\"number\">Account</th><th>Cause</th><th class=\"number\">Frames</th><th class=\"number\">First line</th>\
+         <th>First frame</th><th>What to do</th></tr>\n\
+         </thead>\n\
+         <tbody>\n{rows}</tbody>\n\
+         </table>\n\
+         </section>\n",
+        causes_note(tally)
+    )
+}
+
+/// How many frames were not carried out, what an abort did besides, whose frames all were, and what is not counted.
+fn causes_note(tally: &Tally) -> String {
+    let missed = &tally.missed;
+    let aborted = (missed.aborted > 0).then(|| format!("After an abort: {AFTER_AN_ABORT}."));
+    let earlier = tally.goes_on.then(|| "Frames of earlier runs are not counted here.".to_string());
+    let sentences = [Some(headline(missed)), aborted, flawless(missed), earlier];
+    sentences.into_iter().flatten().collect::<Vec<_>>().join(" ")
+}
+
+/// The row of an account and a cause.
+fn cause_row((account, cause, kind): (u8, Cause, &Kind)) -> String {
+    format!(
+        "<tr><td class=\"number account\">{account}</td><td class=\"cause\">{cause}</td>\
+         <td class=\"number\" data-head=\"Frames\">{frames}</td><td class=\"number\" data-head=\"First line\">{line}</td>\
+         <td class=\"first\" data-head=\"First frame\">{name} <code>{bytes}</code></td><td class=\"remedy\">{remedy}</td></tr>\n",
+        frames = thousands(kind.frames),
+        line = kind.line,
+        name = kind.first.name(),
+        bytes = bytes(&kind.first),
+        remedy = escaped(remedy(cause)),
+    )
+}
+
 /// A row for each operation; nothing if there is none.
 fn operations_table(tally: &Tally) -> String {
     if tally.operations.is_empty() {
@@ -200,15 +251,16 @@ fn operations_table(tally: &Tally) -> String {
 
 /// The row of an operation.
 fn operation_row(operation: &Operation) -> String {
+    let begun = operation.begun.as_ref();
     format!(
         "<tr><td class=\"number\" data-head=\"Began at tick\">{tick}</td><td class=\"number\" data-head=\"Line\">{line}</td>\
          <td class=\"frame\">{name} <code>{bytes}</code></td><td class=\"number account\">{account}</td>\
          <td class=\"number billed\" data-head=\"Billed\">{billed} <span class=\"of\">of {duration}</span> <span class=\"end {class}\">{end}</span></td>\
          <td class=\"meanwhile\" data-head=\"While it ran\">{meanwhile}</td></tr>\n",
-        tick = operation.begun.map_or_else(|| "earlier".to_string(), |begun| thousands(begun.tick)),
-        line = operation.begun.map_or_else(String::new, |begun| begun.line.to_string()),
+        tick = begun.map_or_else(|| "earlier".to_string(), |begun| thousands(begun.tick)),
+        line = begun.map_or_else(String::new, |begun| begun.line.to_string()),
         name = operation.name(),
-        bytes = bytes(operation),
+        bytes = begun.map_or_else(String::new, |begun| bytes(&begun.frame)),
         account = operation.account,
         billed = thousands(operation.billed),
         duration = thousands(operation.duration),
@@ -222,11 +274,11 @@ fn operation_row(operation: &Operation) -> String {
     )
 }
 
-/// The bytes of an operation's frame, the first ones if there are many.
-fn bytes(operation: &Operation) -> String {
-    let first = hex(&operation.first);
-    match operation.length > operation.first.len() {
-        true => format!("{first} …\u{a0}({}\u{a0}bytes)", thousands(operation.length as u64)),
+/// The bytes of a frame, the first ones if there are many.
+fn bytes(frame: &Glimpse) -> String {
+    let first = hex(&frame.first);
+    match frame.length > frame.first.len() {
+        true => format!("{first} …\u{a0}({}\u{a0}bytes)", thousands(frame.length as u64)),
         false => first,
     }
 }

@@ -1,14 +1,17 @@
 //! `oxterin run`: frames from text, answered line by line.
-use crate::complaint::{complaint, Complaint};
-use crate::desk::Billed;
+use crate::complaint::{complain, complaint, Complaint};
+use crate::desk::Sent;
 use crate::frames::{self, Frame, Frames, LINE_HELP, UNSAID_HELP, UNSAID_VALUED};
 use crate::fresh::{PART_FLAGS, PART_HELP, PART_VALUED};
+use crate::history::History;
 use crate::lines::{answered, counted};
+use crate::missed::Missed;
 use crate::options::Given;
 use crate::paths::apart;
 use crate::state::{self, STATE_HELP};
-use crate::{image, say};
+use crate::{advice, image, say};
 use oxterin::Answer;
+use std::io::{self, IsTerminal};
 
 /// `oxterin run --help`.
 pub fn help() -> String {
@@ -28,9 +31,11 @@ Each is answered by the bytes sent, what the output read, and status byte 1 afte
 
 Options:
 {PART_HELP}{STATE_HELP}{UNSAID_HELP}  --save FILE         afterwards the array's content goes to FILE, whole; to a name in .hex or .ihex as Intel HEX
-  --explain           each line also says the outcome, the driven positions, the ticks that the frame lasts, if
-                      any, and the busy ticks left; and, once --account or a line has named an account, the
-                      ticks billed, if any, and to whom. oxterin bill adds them up
+  --explain           each line also says the outcome, why the frame came to nothing or was aborted, if it was, the
+                      driven positions, the ticks that the frame lasts, if any, and the busy ticks left; and, once
+                      --account or a line has named an account, the ticks billed, if any, and to whom. oxterin
+                      bill adds them up. After the last line comes how often each cause occurred, where first,
+                      and what to do about it; oxterin why says that alone
 "
     )
 }
@@ -44,27 +49,36 @@ pub fn run(words: &[String]) -> Result<(), Complaint> {
     let mut saved = given.value("--save").map(image::hold).transpose()?;
     let (mut desk, mut kept) = state::desk(&given)?;
     let mut frames = Frames::open("run", &given)?;
+    let mut missed = Missed::none();
+    let mut history = given.has("--explain").then(History::default);
     let mut accounts = false;
     while let Some(next) = frames.next() {
-        let (_, frame) = next?;
-        let sent = desk.send(&frame).map_err(|words| refused(&frames.place(), &words))?;
+        let (line, frame) = next?;
+        let sent = match &mut history {
+            Some(history) => history.send(&mut desk, line, &frame),
+            None => desk.send(&frame).map(|sent| (sent, String::new())),
+        };
+        let (sent, came_to) = sent.map_err(|words| refused(&frames.place(), &words))?;
+        missed.note(line, &frame, &sent.exchange.answer);
         accounts |= frame.named.is_some();
-        let line = answered(&frame.input, &sent.exchange.output, desk.part.status(frame.signals.wp_high)[0]);
-        let more = match given.has("--explain") {
-            true => explained(
-                &frame,
-                &sent.exchange.answer,
-                desk.part.record.busy,
-                sent.billed.filter(|_| accounts),
-            ),
+        let answer = answered(&frame.input, &sent.exchange.output, desk.part.status(frame.signals.wp_high)[0]);
+        let more = match history.is_some() {
+            true => explained(&came_to, &frame, &sent, desk.part.record.busy, accounts),
             false => String::new(),
         };
-        say(&format!("{line}{more}\n"))?;
+        say(&format!("{answer}{more}\n"))?;
+    }
+    if history.is_some() && !missed.is_empty() {
+        say(&format!("\n{}", advice::by_cause(&missed)))?;
     }
     if let Some(held) = &mut saved {
         image::save(held, desk.part.array())?;
     }
-    kept.as_mut().map_or(Ok(()), |held| held.save(&state::encode(&desk)))
+    kept.as_mut().map_or(Ok(()), |held| held.save(&state::encode(&desk)))?;
+    if history.is_none() {
+        hint(&missed);
+    }
+    Ok(())
 }
 
 /// The complaint of a refused frame.
@@ -74,23 +88,36 @@ fn refused(place: &str, words: &str) -> Complaint {
     ))
 }
 
-/// Outcome, driven positions, the ticks that the frame lasted, if any, busy ticks, and what was billed, if anything, in words.
-fn explained(frame: &Frame, answer: &Answer, busy: u64, billed: Option<Billed>) -> String {
-    let driven = match answer.driven {
-        0 => "drives nothing".to_string(),
-        1 => format!("drives position {}", answer.first),
-        driven => format!("drives positions {} to {}", answer.first, answer.first + driven - 1),
-    };
+/// Says on a terminal that frames were not carried out, and how to know why. What goes to a file or a program stays as it is.
+fn hint(missed: &Missed) {
+    if !missed.is_empty() && io::stderr().is_terminal() {
+        complain(format!("{} --explain says why, and so does oxterin why", advice::headline(missed)));
+    }
+}
+
+/// What a frame came to, the driven positions, the ticks that it lasted, if any, the busy ticks left, and, once an account has been named,
+/// what was billed, if anything, in words.
+fn explained(came_to: &str, frame: &Frame, sent: &Sent, busy: u64, accounts: bool) -> String {
+    let driven = driven(&sent.exchange.answer);
     let lasted = match frame.signals.frame_ticks() {
         0 => String::new(),
-        lasted => format!("lasts {lasted} ticks, "),
+        ticks => format!("lasts {}, ", counted(ticks, "tick")),
     };
     let busy = match busy {
         0 => "idle".to_string(),
-        busy => format!("busy for {busy} ticks"),
+        ticks => format!("busy for {}", counted(ticks, "tick")),
     };
-    let billed = billed.map_or_else(String::new, |billed| {
+    let billed = sent.billed.filter(|_| accounts).map_or_else(String::new, |billed| {
         format!(", {} billed to account {}", counted(billed.ticks, "tick"), billed.account)
     });
-    format!(" ({}, {driven}, {lasted}{busy}{billed})", answer.outcome)
+    format!(" ({came_to}, {driven}, {lasted}{busy}{billed})")
+}
+
+/// The driven positions, in words.
+fn driven(answer: &Answer) -> String {
+    match answer.driven {
+        0 => "drives nothing".to_string(),
+        1 => format!("drives position {}", answer.first),
+        driven => format!("drives positions {} to {}", answer.first, answer.first + driven - 1),
+    }
 }

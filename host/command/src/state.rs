@@ -59,6 +59,14 @@ pub fn desk(given: &Given) -> Result<(Desk, Option<Held>), Complaint> {
     }
 }
 
+/// The same, where a state is only read.
+pub fn seen(given: &Given) -> Result<Desk, Complaint> {
+    match path(given)? {
+        Some(path) => load(path),
+        None => Ok(Desk::new(fresh::part(given)?)),
+    }
+}
+
 /// Takes hold of a state, and what it says.
 pub fn open(path: &str) -> Result<(Desk, Held), Complaint> {
     let held = STATE.hold(path)?;

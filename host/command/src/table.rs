@@ -1,26 +1,29 @@
 //! A bill as a table for a terminal, and as comma-separated values.
+use crate::advice;
+use crate::columns::{aligned, Side, GAP};
 use crate::desk::{All, Desk};
 use crate::lines::{counted, thousands};
 use crate::tally::{End, Tally};
 use oxterin::Line;
 
-/// The columns before the bar.
-const COLUMNS: [&str; 4] = ["account", "total ticks", "most for one operation", "operations"];
-/// What stands between two columns.
-const GAP: &str = "   ";
+/// The columns, of which the last is the bar.
+const COLUMNS: [&str; 5] = ["account", "total ticks", "most for one operation", "operations", ""];
+/// On which side their cells stand.
+const SIDES: [Side; COLUMNS.len()] = [Side::Right, Side::Right, Side::Right, Side::Right, Side::Left];
 /// How many marks the longest bar has.
 const BAR: u128 = 30;
 
-/// A row of the table: its cells, and its bar.
-struct Row {
-    cells: [String; COLUMNS.len()],
-    bar: String,
-}
-
-/// The table with a row for each account and one for all, what is still running, and how many frames and ticks there were.
+/// The table with a row for each account and one for all, what is still running, how many frames and ticks there were, and which frames were
+/// not carried out.
 pub fn table(tally: &Tally) -> String {
     let Tally { desk, .. } = tally;
-    format!("{}{}\n{}", accounts(desk), still_running(tally), counts(desk))
+    format!(
+        "{}{}\n{}{}",
+        accounts(desk),
+        still_running(tally),
+        counts(desk),
+        not_carried_out(tally)
+    )
 }
 
 /// A row for each account and one for all.
@@ -37,36 +40,24 @@ pub fn accounts(desk: &Desk) -> String {
 /// The rows under their heads.
 fn rows(accounts: &[(u8, Line)], all: All) -> String {
     let largest = accounts.iter().map(|(_, line)| line.total).max().unwrap_or(0);
-    let head = Row {
-        cells: COLUMNS.map(String::from),
-        bar: String::new(),
-    };
-    let each = accounts.iter().map(|(account, line)| Row {
-        cells: [
+    let head = COLUMNS.map(String::from);
+    let each = accounts.iter().map(|(account, line)| {
+        [
             account.to_string(),
             thousands(line.total),
             thousands(line.most),
             thousands(line.number),
-        ],
-        bar: bar(line.total, largest),
+            bar(line.total, largest),
+        ]
     });
-    let last = Row {
-        cells: ["all".into(), thousands(all.total), thousands(all.most), thousands(all.number)],
-        bar: String::new(),
-    };
-    aligned(&[head].into_iter().chain(each).chain([last]).collect::<Vec<_>>())
-}
-
-/// Rows below each other, each column as wide as its widest cell, numbers to the right.
-fn aligned(rows: &[Row]) -> String {
-    let width = |column: usize| rows.iter().map(|row| row.cells[column].len()).max().unwrap_or(0);
-    let widths: Vec<usize> = (0..COLUMNS.len()).map(width).collect();
-    let line = |row: &Row| {
-        let cells = row.cells.iter().zip(&widths).map(|(cell, width)| format!("{cell:>width$}{GAP}"));
-        let line = cells.chain([row.bar.clone()]).collect::<String>();
-        line.trim_end().to_string() + "\n"
-    };
-    rows.iter().map(line).collect()
+    let last = [
+        "all".into(),
+        thousands(all.total),
+        thousands(all.most),
+        thousands(all.number),
+        String::new(),
+    ];
+    aligned(SIDES, &[head].into_iter().chain(each).chain([last]).collect::<Vec<_>>())
 }
 
 /// Marks for a total, in proportion to the largest; at least one unless it is 0.
@@ -86,7 +77,9 @@ fn still_running(tally: &Tally) -> String {
             "\nStill running: account {}'s {}{}, billed so far for {} of its {}.\n",
             last.account,
             last.name(),
-            last.begun.map_or_else(String::new, |begun| format!(" of line {}", begun.line)),
+            last.begun
+                .as_ref()
+                .map_or_else(String::new, |begun| format!(" of line {}", begun.line)),
             thousands(last.billed),
             counted(last.duration, "tick")
         ),
@@ -104,6 +97,18 @@ fn counts(desk: &Desk) -> String {
     let width = counts.iter().map(|(_, number)| number.len()).max().unwrap_or(0);
     let line = |(what, number): &(&str, String)| format!("{what:<12}{GAP}{number:>width$}\n");
     counts.iter().map(line).collect()
+}
+
+/// By account and cause, the frames of this run that were not carried out, if there are any.
+fn not_carried_out(tally: &Tally) -> String {
+    let earlier = match tally.goes_on {
+        true => "\nFrames of earlier runs are not counted here.\n",
+        false => "",
+    };
+    match tally.missed.is_empty() {
+        true => String::new(),
+        false => format!("\n{}{earlier}", advice::by_account(&tally.missed)),
+    }
 }
 
 /// The bill as comma-separated values: a line of heads, then one for each account, in numbers without commas of their own.

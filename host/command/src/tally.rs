@@ -1,7 +1,9 @@
 //! What came of a run of frames: the operations begun, what each was billed and to whom, and who sent frames while it ran.
 use crate::desk::Desk;
 use crate::frames::Frame;
+use crate::glimpse::Glimpse;
 use crate::lines::counted;
+use crate::missed::Missed;
 use oxterin::Outcome;
 use std::collections::BTreeMap;
 
@@ -18,18 +20,16 @@ pub struct Tally {
     keeps_all: bool,
     /// What was begun, in the order of the frames; the last alone unless all are kept. The first may be one that was running before.
     pub operations: Vec<Operation>,
+    /// Which frames of the run were not carried out.
+    pub missed: Missed,
 }
 
 /// An operation of the part.
 pub struct Operation {
     /// Whose frame began it.
     pub account: u8,
-    /// Where and when; none if that was before this run.
+    /// Where, when and by which frame; none if that was before this run.
     pub begun: Option<Begun>,
-    /// The frame's first bytes.
-    pub first: Vec<u8>,
-    /// How many bytes the frame has.
-    pub length: usize,
     /// How many ticks it takes; if a month was closed while it ran, those since then.
     pub duration: u64,
     /// How many of them were billed.
@@ -40,13 +40,15 @@ pub struct Operation {
     pub meanwhile: BTreeMap<u8, Meanwhile>,
 }
 
-/// Where and when an operation began.
-#[derive(Clone, Copy, Debug, PartialEq, Eq)]
+/// Where, when and by which frame an operation began.
+#[derive(Clone, Debug, PartialEq, Eq)]
 pub struct Begun {
     /// The number of its frame's line.
     pub line: usize,
     /// The tick at the frame's end.
     pub tick: u128,
+    /// The frame's beginning.
+    pub frame: Glimpse,
 }
 
 /// What became of an operation.
@@ -75,6 +77,7 @@ impl Tally {
         Tally {
             goes_on: desk.frames > 0,
             operations: Operation::running(&desk).into_iter().collect(),
+            missed: Missed::none(),
             keeps_all,
             desk,
         }
@@ -84,6 +87,7 @@ impl Tally {
     pub fn send(&mut self, line: usize, frame: &Frame) -> Result<(), String> {
         let found_busy = self.desk.part.record.busy > self.desk.signals(frame).elapsed;
         let sent = self.desk.send(frame)?;
+        self.missed.note(line, frame, &sent.exchange.answer);
         let left = self.desk.part.record.busy;
         let begins = sent.exchange.answer.outcome == Outcome::Begun;
         if let Some(running) = self.operations.last_mut().filter(|last| last.end == End::Running) {
@@ -99,25 +103,23 @@ impl Tally {
             if !self.keeps_all {
                 self.operations.clear();
             }
-            let tick = self.desk.tick;
-            self.operations.push(Operation::begun(Begun { line, tick }, frame, left));
+            let begun = Begun {
+                line,
+                tick: self.desk.tick,
+                frame: Glimpse::of(frame),
+            };
+            self.operations.push(Operation::begun(frame.account(), begun, left));
         }
         Ok(())
     }
 }
 
 impl Operation {
-    /// Of a frame so many bytes are kept.
-    const KEPT: usize = 8;
-
-    /// What a frame began, with the ticks that it takes.
-    fn begun(begun: Begun, frame: &Frame, duration: u64) -> Operation {
-        let length = frame.input.len();
+    /// What an account's frame began, with the ticks that it takes.
+    fn begun(account: u8, begun: Begun, duration: u64) -> Operation {
         Operation {
-            account: frame.account(),
+            account,
             begun: Some(begun),
-            first: frame.input[..length.min(Operation::KEPT)].to_vec(),
-            length,
             duration,
             billed: 0,
             end: End::Running,
@@ -132,8 +134,6 @@ impl Operation {
         Some(Operation {
             account,
             begun: None,
-            first: Vec::new(),
-            length: 0,
             duration: running.billed.saturating_add(left),
             billed: running.billed,
             end: End::Running,
@@ -151,14 +151,8 @@ impl Operation {
 
     /// What it is, in words.
     pub fn name(&self) -> String {
-        match self.first.first() {
-            Some(0x02) => format!("program of {}", counted(self.length as u64 - 4, "byte")),
-            Some(0x81) => "page erase".into(),
-            Some(0x20) => "4-KiB erase".into(),
-            Some(0x52 | 0xD8) => "32-KiB erase".into(),
-            Some(0x60 | 0x62 | 0xC7) => "chip erase".into(),
-            Some(0x9B) => "OTP program".into(),
-            Some(_) => "status write".into(),
+        match &self.begun {
+            Some(begun) => begun.frame.name(),
             None => "operation begun earlier".into(),
         }
     }
@@ -229,28 +223,7 @@ mod tests {
 
     /// The line of the frame that began an operation.
     fn line(operation: &Operation) -> Option<usize> {
-        operation.begun.map(|begun| begun.line)
-    }
-
-    #[test]
-    fn every_operation_has_its_name() {
-        for (input, name) in [
-            (&[0x02, 0, 0, 0, 9][..], "program of 1 byte"),
-            (&[0x02, 0, 0, 0, 9, 8], "program of 2 bytes"),
-            (&[0x81, 0, 0, 0], "page erase"),
-            (&[0x20, 0, 0, 0], "4-KiB erase"),
-            (&[0x52, 0, 0, 0], "32-KiB erase"),
-            (&[0xD8, 0, 0, 0], "32-KiB erase"),
-            (&[0x60], "chip erase"),
-            (&[0x62], "chip erase"),
-            (&[0xC7], "chip erase"),
-            (&[0x9B, 0, 0, 0, 9], "OTP program"),
-            (&[0x01, 0x04], "status write"),
-        ] {
-            let tally = tally(&[(1, &[0x06], 0), (1, input, 0)]);
-            let names: Vec<String> = tally.operations.iter().map(Operation::name).collect();
-            assert_eq!(names, [name]);
-        }
+        operation.begun.as_ref().map(|begun| begun.line)
     }
 
     /// A 4-KiB erase takes 50,000 ticks. The second poll's first bit comes as it ends, so it was not sent while the erase ran.
@@ -266,7 +239,8 @@ mod tests {
         let early = tally(&frames[..4]);
         let erase = &early.operations[0];
         assert_eq!((erase.billed, erase.end), (20_000, End::Running));
-        assert_eq!(erase.begun, Some(Begun { line: 2, tick: 15 }));
+        assert_eq!((line(erase), erase.begun.as_ref().map(|begun| begun.tick)), (Some(2), Some(15)));
+        assert_eq!(erase.name(), "4-KiB erase");
         let late = tally(&frames);
         let erase = &late.operations[0];
         assert_eq!((late.operations.len(), erase.account, line(erase)), (1, 7, Some(2)));
@@ -333,7 +307,7 @@ mod tests {
         let mut second = Tally::new(first.desk.clone(), true);
         let erase = &second.operations[0];
         assert_eq!(
-            (erase.account, erase.begun, erase.billed, erase.duration),
+            (erase.account, line(erase), erase.billed, erase.duration),
             (7, None, 20_000, 50_000)
         );
         assert_eq!(erase.name(), "operation begun earlier");

@@ -56,14 +56,23 @@ fn long_day() -> String {
 /// The first story: 300 chip erases without a write enable, and 300 polls.
 ///
 /// By hand: no frame sets the latch, so none of the 300 erases begins, no tick is ever busy, and every account's total is 0. There are
-/// 2 * 300 = 600 frames, each with 144,000,000 ticks before it and none of its own: 86,400,000,000, which is 24 hours of microseconds.
+/// 2 * 300 = 600 frames, each with 144,000,000 ticks before it and none of its own: 86,400,000,000, which is 24 hours of microseconds. All
+/// 300 erases come to nothing for the one cause, and the first stands after four lines of comment, an empty one and one more of comment.
 #[test]
 fn a_saturday_without_the_latch_costs_nothing_and_changes_nothing() {
     let frames = example("saturday-unlatched.frames");
     let kept = fs::read_to_string(example("saturday-unlatched.bill")).expect("the kept bill");
     assert_eq!(says(&["bill", &frames], ""), kept);
     assert_eq!(says(&["bill", &frames, "--csv"], ""), "account,total,most,operations\n");
+    for line in [
+        "Of 600 frames, 300 came to nothing.",
+        "      7      300   latch clear   line 7, chip erase",
+        "Every frame of account 12 was carried out.",
+    ] {
+        assert_eq!(kept.lines().filter(|there| *there == line).count(), 1, "{line}");
+    }
     let text = fs::read_to_string(&frames).expect("the example");
+    assert_eq!(text.lines().position(|line| line.starts_with("C7")), Some(6));
     let sent = |begin: &str| text.lines().filter(|line| line.starts_with(begin)).count();
     assert_eq!((sent("C7 account=7 "), sent("05 00 account=12 "), sent("06")), (300, 300, 0));
 
@@ -97,6 +106,10 @@ fn a_saturday_with_the_latch_is_billed_to_the_one_who_began_it() {
         says(&["bill", &frames, "--csv"], ""),
         "account,total,most,operations\n7,38400000,1600000,24\n"
     );
+    assert!(
+        !kept.contains("nothing") && !kept.contains("aborted"),
+        "every frame was carried out"
+    );
 }
 
 /// Account 12's frame 06 in line 7 comes a tick before the erase ends and is ignored; line 9's is heard. The program in line 13 loses 3
@@ -120,6 +133,15 @@ Still running: account 7's page erase of line 17, billed so far for 6 of its 7,0
 frames sent           18
 ticks passed   1,652,032
 of them busy   1,652,005
+
+Of 18 frames, 1 came to nothing.
+
+account   frames   cause   first
+     12        1   busy    line 7, write enable
+
+busy: poll by 05h until bit 0 is 0, then send the frame again; if RSTE is 1, F0h D0h ends the operation early
+
+Every frame of accounts 3, 7 and 200 was carried out.
 ";
     assert_eq!(says(&["bill"], &long_day()), expected);
 }
@@ -316,7 +338,7 @@ fn wrong_words_are_complained_of_with_a_remedy() {
         (&["bill", "--html", "/dev/null"], "not a plain file, so no page is saved there"),
         (&["bill", "--html", "."], "name a file"),
         (&["bill", "--html", ""], "so no page is saved there; name a file, such as bill.html"),
-        (&["bills"], "there are session, run, bill, serve, state and hex"),
+        (&["bills"], "there are session, run, why, bill, serve, state and hex"),
     ] {
         let complaint = complaint(words, "06\n");
         assert!(complaint.contains(remedy), "{words:?}: {complaint}");
@@ -432,7 +454,7 @@ fn rows(page: &str) -> Vec<Vec<String>> {
 fn the_page_has_a_row_for_each_account_and_each_operation() {
     let page = page_of("rows", &long_day());
     texts(&page);
-    let expected: [&[&str]; 10] = [
+    let expected: [&[&str]; 12] = [
         &[
             "Account",
             "Share of the busy ticks",
@@ -444,6 +466,15 @@ fn the_page_has_a_row_for_each_account_and_each_operation() {
         &["12", "3.0 %", "50,000", "50,000", "1"],
         &["200", "0.1 %", "1,999", "1,999", "1"],
         &["All", "", "1,652,005", "1,600,000", "4"],
+        &["Account", "Cause", "Frames", "First line", "First frame", "What to do"],
+        &[
+            "12",
+            "busy",
+            "1",
+            "7",
+            "write enable 06",
+            "poll by 05h until bit 0 is 0, then send the frame again; if RSTE is 1, F0h D0h ends the operation early",
+        ],
         &[
             "Began at tick",
             "Line",
@@ -522,6 +553,94 @@ fn the_page_says_the_bill_in_a_sentence() {
     }
 }
 
+/// What the page of an example says of frames that were not carried out, in the sentence above its rows; nothing if there is none.
+fn causes_note(name: &str) -> Option<String> {
+    let page = folder(name).join("page.html");
+    says(&["bill", &example(&format!("{name}.frames")), "--html", word(&page)], "");
+    let page = fs::read_to_string(&page).expect("a page");
+    let shown: Vec<String> = texts(&page).into_iter().map(|(_, text)| text).collect();
+    let head = shown.iter().position(|text| text == "Frames that were not carried out")?;
+    let row = ["7", "latch clear", "300", "7", "chip erase C7", LATCH].map(String::from);
+    assert_eq!(rows(&page)[1..], [row]);
+    Some(shown[head + 1].clone())
+}
+
+/// What to do if the latch is clear.
+const LATCH: &str = "send 06h before each program, erase or status write; the latch drops after every one";
+
+#[test]
+fn the_page_says_whose_frames_were_not_carried_out_and_why() {
+    assert_eq!(
+        causes_note("saturday-unlatched").as_deref(),
+        Some("Of 600 frames, 300 came to nothing. Every frame of account 12 was carried out.")
+    );
+    assert_eq!(causes_note("saturday-latched"), None);
+}
+
+/// Account 7 finds the latch clear in lines 1 and 4 and too few bytes in line 3, which is aborted. In line 5 account 12 sends 11 bits of a
+/// write enable, and in line 6 lets time pass. Account 9 polls. By account, and of one account in the list's order.
+#[test]
+fn frames_that_were_not_carried_out_are_counted_by_account() {
+    let frames =
+        "C7 account=7\n06 account=7\n02 00 00 00 account=7\n20 00 00 00 account=7\n06 00 /11 account=12\n+9 account=12\n05 00 account=9\n";
+    let expected = "
+Of 7 frames, 3 came to nothing, and 1 was aborted.
+
+account   frames   cause          first
+      7        2   latch clear    line 1, chip erase
+      7        1   incomplete     line 3, program of 0 bytes
+     12        1   off boundary   line 5, write enable
+
+latch clear: send 06h before each program, erase or status write; the latch drops after every one
+off boundary: clock whole bytes: chip select has to rise after a multiple of 8 bits
+incomplete: 02h and 9Bh need 3 address bytes and at least 1 data byte; 81h, 20h, 52h and D8h 3 address bytes; 01h and 31h 1 data byte
+aborted: the frame also dropped the latch; send 06h again before the next try
+
+Every frame of account 9 was carried out.
+";
+    let bill = says(&["bill"], frames);
+    assert!(bill.ends_with(&format!("of them busy   0\n{expected}")), "{bill}");
+    assert_eq!(billed(frames), "");
+    let shown: Vec<String> = texts(&page_of("counted", frames)).into_iter().map(|(_, text)| text).collect();
+    let note =
+        "Of 7 frames, 3 came to nothing, and 1 was aborted. After an abort: the frame also dropped the latch; send 06h again before the \
+                next try. Every frame of account 9 was carried out.";
+    assert!(shown.contains(&note.to_string()), "{shown:?}");
+}
+
+/// A state does not keep why frames came to nothing: the second bill has those of its own frames, and that of the books alone has none.
+#[test]
+fn causes_are_those_of_the_frames_read_now() {
+    let folder = folder("months");
+    let (state, page) = (folder.join("state"), folder.join("page.html"));
+    says(&["state", word(&state), "--new"], "");
+    let first = says(&["bill", "--state", word(&state), "-"], "C7 account=7\n05 00 account=12\n");
+    assert!(first.contains("\nOf 2 frames, 1 came to nothing.\n"), "{first}");
+    assert!(!first.contains("earlier"), "{first}");
+    let second = says(
+        &["bill", "--state", word(&state), "-", "--html", word(&page)],
+        "04 account=7\nAB account=12\nAB account=12\n",
+    );
+    assert!(second.contains("\nframes sent    5\n"), "{second}");
+    let expected = "
+Of 3 frames, 2 came to nothing.
+
+account   frames   cause           first
+     12        2   already awake   line 2, resume
+
+already awake: nothing to do: ABh wakes a part from deep power-down, and this one was awake
+
+Every frame of account 7 was carried out.
+
+Frames of earlier runs are not counted here.
+";
+    assert!(second.ends_with(expected), "{second}");
+    let page = fs::read_to_string(&page).expect("a page");
+    assert!(page.contains("Every frame of account 7 was carried out. Frames of earlier runs are not counted here.</p>"));
+    let books = says(&["bill", "--state", word(&state)], "");
+    assert!(books.ends_with("\nof them busy   0\n"), "{books}");
+}
+
 #[test]
 fn the_page_needs_nothing_from_elsewhere() {
     let page = page_of("alone", &long_day());
@@ -593,12 +712,14 @@ fn a_long_page_has_them_all() {
 fn a_run_explains_what_is_billed() {
     let frames = "06 account=7\n20 00 00 00 account=7\n05 00 account=12 +48000\nC7 account=12 +1999\n05 00 account=12 +9\n05 00 +1\n";
     let expected = "06 > FF ST 12 (control, drives nothing, idle)\n\
-                    20 00 00 00 > FF FF FF FF ST 11 (begun, drives nothing, busy for 50000 ticks)\n\
-                    05 00 > FF 11 ST 11 (read, drives position 1, busy for 2000 ticks, 48,000 ticks billed to account 7)\n\
-                    C7 > FF ST 11 (nothing, drives nothing, busy for 1 ticks, 1,999 ticks billed to account 7)\n\
+                    20 00 00 00 > FF FF FF FF ST 11 (begun, drives nothing, busy for 50,000 ticks)\n\
+                    05 00 > FF 11 ST 11 (read, drives position 1, busy for 2,000 ticks, 48,000 ticks billed to account 7)\n\
+                    C7 > FF ST 11 (nothing: busy for 1 more tick with the 4-KiB erase of line 2, drives nothing, busy for 1 tick, \
+                    1,999 ticks billed to account 7)\n\
                     05 00 > FF 10 ST 10 (read, drives position 1, idle, 1 tick billed to account 7)\n\
                     05 00 > FF 10 ST 10 (read, drives position 1, idle)\n";
-    assert_eq!(says(&["run", "--explain"], frames), expected);
+    let said = says(&["run", "--explain"], frames);
+    assert!(said.starts_with(&format!("{expected}\n")), "{said}");
     let plain: String = expected
         .lines()
         .map(|line| format!("{}\n", line.split(" (").next().unwrap_or(line)))
@@ -609,7 +730,7 @@ fn a_run_explains_what_is_billed() {
 #[test]
 fn a_run_says_nothing_of_accounts_until_one_is_named() {
     let frames = "06\n81 00 00 00\n05 00 +10\n";
-    let poll = "05 00 > FF 11 ST 11 (read, drives position 1, busy for 6990 ticks";
+    let poll = "05 00 > FF 11 ST 11 (read, drives position 1, busy for 6,990 ticks";
     let last = |words: &[&str], frames: &str| says(words, frames).lines().last().expect("a line").to_string();
     assert_eq!(last(&["run", "--explain"], frames), format!("{poll})"));
     assert_eq!(

@@ -79,12 +79,20 @@ fn the_example_polls_with_chip_select_held_low() {
                     05 00 00 00 00 00 > FF 11 01 10 00 10 ST 10 (read, drives positions 1 to 5, lasts 24 ticks, idle)\n\
                     03 00 00 10 00 > FF FF FF FF 5A ST 10 (read, drives position 4, idle)\n\
                     06 > FF ST 12 (control, drives nothing, idle)\n\
-                    20 00 00 00 > FF FF FF FF ST 11 (begun, drives nothing, lasts 32 ticks, busy for 50000 ticks)\n\
+                    20 00 00 00 > FF FF FF FF ST 11 (begun, drives nothing, lasts 32 ticks, busy for 50,000 ticks)\n\
                     05 00 00 00 > FF 11 01 10 ST 10 (read, drives positions 1 to 3, lasts 32 ticks, idle)\n\
                     06 > FF ST 12 (control, drives nothing, idle)\n\
                     02 00 00 11 A5 > FF FF FF FF FF ST 11 (begun, drives nothing, busy for 12 ticks)\n\
-                    03 00 00 10 00 > FF FF FF FF FF ST 10 (nothing, drives nothing, lasts 40 ticks, idle)\n\
-                    03 00 00 10 00 00 > FF FF FF FF FF A5 ST 10 (read, drives positions 4 to 5, idle)\n";
+                    03 00 00 10 00 > FF FF FF FF FF ST 10 (nothing: busy for 12 more ticks with the program of 1 byte of line 10, \
+                    drives nothing, lasts 40 ticks, idle)\n\
+                    03 00 00 10 00 00 > FF FF FF FF FF A5 ST 10 (read, drives positions 4 to 5, idle)\n\
+                    \n\
+                    Of 11 frames, 1 came to nothing.\n\
+                    \n\
+                    frames   cause   first\n     \
+                         1   busy    line 11, array read\n\
+                    \n\
+                    busy: poll by 05h until bit 0 is 0, then send the frame again; if RSTE is 1, F0h D0h ends the operation early\n";
     assert_eq!(said(&output), expected);
 }
 
@@ -107,8 +115,9 @@ fn explanations_and_settings() {
                     06 > FF ST 12 (control, drives nothing, idle)\n\
                     20 00 00 00 > FF FF FF FF ST 11 (begun, drives nothing, busy for 7 ticks)\n\
                     05 00 > FF 10 ST 10 (read, drives position 1, idle)\n\
-                    02 00 00 00 01 02 > FF FF FF FF FF FF ST 10 (nothing, drives nothing, idle)\n";
-    assert_eq!(said(&output), expected);
+                    02 00 00 00 01 02 > FF FF FF FF FF FF ST 10 (nothing: latch clear since line 3, drives nothing, idle)\n";
+    let lines = said(&output).split_inclusive('\n').take(5).collect::<String>();
+    assert_eq!(lines, expected);
 }
 
 #[test]
@@ -175,7 +184,7 @@ fn a_refused_frame_ends_the_run() {
 #[test]
 fn wrong_words_are_complained_of_with_a_remedy() {
     for (words, remedy) in [
-        (&["rum"][..], "there are session, run, bill, serve, state and hex"),
+        (&["rum"][..], "there are session, run, why, bill, serve, state and hex"),
         (&["session", "now"], "takes nothing"),
         (&["run", "--sise", "1"], "--help"),
         (&["run", "--size"], "wants a value"),
@@ -204,6 +213,7 @@ fn help_and_version() {
         &["--help"][..],
         &["session", "--help"],
         &["run", "--help"],
+        &["why", "--help"],
         &["bill", "--help"],
         &["serve", "--help"],
         &["hex", "--help"],
