@@ -58,7 +58,7 @@ Time:
 What is written:
   --save OUT          the array, as Intel HEX if the name ends in .hex or .ihex; OUT may be the --image file
   --log FILE          a line for each frame, added to FILE; oxterin bill FILE gives the bill
-  --json FILE         the same as JSON, an object a line, with output and ticks billed
+  --json FILE         the same as JSON, an object a line, with output, cause and ticks billed
   --status FILE       counters to watch, in words
 
 When the server is ready, it prints a line for each port, 'listening on 127.0.0.1:PORT', with 'for account N' after it
@@ -92,13 +92,18 @@ and SIGHUP end the server after that. OUT is made at once if it is missing; an o
 changed. No other oxterin can save them meanwhile.
 
 A line of the log is one that oxterin run takes: the bytes, +TICKS elapsed before it, @TICKS of each byte, wp=low,
-account=N, and as a comment status byte 1 afterwards and the outcome. A refused frame is a comment. Each server begins
-with a comment that says from where it goes on, and for a fresh part with which options oxterin bill gives the same
-bill; oxterin bill complains if frames are missing in between. The log of a fresh part must be without other frames.
-Logs are written in blocks, and when no frame has come for a quarter of a second. On the way out the ticks since the
-last frame are billed by a frame of no bits, if the part is busy.
+account=N, and as a comment status byte 1 afterwards, the outcome and, if that is nothing or aborted, the cause:
 
-SIGUSR1 writes the counters to standard error: since when, frames, refusals by number, busy ticks, clients.
+  C7 account=7 # ST 10 nothing: latch clear
+
+oxterin why LOG says what to do about each. A refused frame is a comment. Each server begins with a comment that says
+from where it goes on, and for a fresh part with which options oxterin bill gives the same bill; oxterin bill complains
+if frames are missing in between. The log of a fresh part must be without other frames. Logs are written in blocks, and
+when no frame has come for a quarter of a second. On the way out the ticks since the last frame are billed by a frame of
+no bits, if the part is busy.
+
+SIGUSR1 writes the counters to standard error: since when, frames, those not carried out by cause, refusals by number,
+busy ticks, clients.
 "
     )
 }

@@ -4,7 +4,7 @@ mod common;
 
 use common::server::{operation, refusal, until, Client, Server, ACK, NAK};
 use common::{complaint, word};
-use model::{Books, Outcome, Pins, Record, Running, Settings, Tables};
+use model::{Books, Mode, Outcome, Pins, Record, Running, Settings, Tables};
 use std::collections::{BTreeMap, BTreeSet};
 use std::fs;
 use std::io::Read;
@@ -150,12 +150,22 @@ struct Twin {
 struct Taken {
     output: Vec<u8>,
     outcome: Outcome,
+    /// Why, if it came to nothing or was aborted.
+    cause: Option<&'static str>,
     /// Status byte 1 afterwards.
     status: u8,
     /// Who was billed for it, and for how many ticks.
     billed: Option<(u8, u64)>,
     /// Whether a reset stopped an operation.
     stopped: bool,
+}
+
+impl Taken {
+    /// What a log's comment says of it.
+    fn comment(&self) -> String {
+        let cause = self.cause.map_or_else(String::new, |cause| format!(": {cause}"));
+        format!("ST {:02X} {}{cause}", self.status, name(self.outcome))
+    }
 }
 
 impl Twin {
@@ -186,6 +196,7 @@ impl Twin {
         let mut output = vec![0; line.bytes.len()];
         let before = self.books.tables().totals;
         let left = self.record.busy.saturating_sub(line.ticks());
+        let cause = cause(&self.record, line);
         let answer = self.books.frame(
             self.record,
             &self.settings,
@@ -197,12 +208,15 @@ impl Twin {
             line.account.into(),
         );
         assert_eq!(answer.refusal, 0, "{:02X?}", line.bytes);
+        let not_carried_out = matches!(answer.outcome, Outcome::Nothing | Outcome::Aborted);
+        assert_eq!(cause.is_some(), not_carried_out, "{cause:?}: {:02X?}", line.bytes);
         self.record = answer.record;
         let after = self.books.tables().totals;
         let billed = (0..=255u8).find(|account| before[usize::from(*account)] != after[usize::from(*account)]);
         Taken {
             output,
             outcome: answer.outcome,
+            cause,
             status: self.record.status(line.wp_high)[0],
             billed: billed.map(|account| (account, after[usize::from(account)] - before[usize::from(account)])),
             stopped: left > 0 && self.record.busy == 0,
@@ -213,12 +227,7 @@ impl Twin {
     fn follow(&mut self, lines: &[Line]) -> Vec<Taken> {
         let one = |line: &Line| {
             let taken = self.take(line);
-            assert_eq!(
-                line.said,
-                format!("ST {:02X} {}", taken.status, name(taken.outcome)),
-                "{:02X?}",
-                line.bytes
-            );
+            assert_eq!(line.said, taken.comment(), "{:02X?}", line.bytes);
             taken
         };
         lines.iter().map(one).collect()
@@ -236,6 +245,41 @@ impl Twin {
     fn close(&mut self) {
         self.books.close();
     }
+}
+
+/// Why a frame of whole bytes comes to nothing or is aborted on a part that it finds like this: of request R-5's list the first that holds,
+/// by document 01. A part in ultra-deep power-down is woken by any frame.
+fn cause(found: &Record, line: &Line) -> Option<&'static str> {
+    const READS_AND_ORDERS: [u8; 12] = [0x03, 0x0B, 0x77, 0x05, 0x9F, 0x15, 0x06, 0x04, 0xB9, 0x79, 0xAB, 0xF0];
+    if found.mode == Mode::UltraDeep {
+        return None;
+    }
+    let Some(opcode) = line.bytes.first() else {
+        return Some("too few bits");
+    };
+    let busy = found.busy > line.elapsed;
+    let confirmed = found.rste && line.bytes.get(1) == Some(&0xD0);
+    let on_array = [0x02, 0x81, 0x20, 0x52, 0xD8, 0x60, 0x62, 0xC7].contains(opcode);
+    let latched = on_array || [0x9B, 0x01, 0x31].contains(opcode);
+    let needed = match opcode {
+        0x02 | 0x9B => 5,
+        0x81 | 0x20 | 0x52 | 0xD8 => 4,
+        0x01 | 0x31 => 2,
+        _ => 1,
+    };
+    let causes = [
+        (found.mode == Mode::Deep && *opcode != 0xAB, "asleep"),
+        (busy && ![0x05, 0xF0].contains(opcode), "busy"),
+        (!latched && !READS_AND_ORDERS.contains(opcode), "unknown opcode"),
+        (latched && !found.wel, "latch clear"),
+        (*opcode == 0xF0 && !confirmed, "reset not enabled or not confirmed"),
+        (line.bytes.len() < needed, "incomplete"),
+        (on_array && found.bp0, "protected"),
+        (*opcode == 0x01 && found.bpl && !line.wp_high, "locked"),
+        (*opcode == 0x9B && found.otp_used, "already programmed"),
+        (*opcode == 0xAB && found.mode == Mode::Awake, "already awake"),
+    ];
+    causes.into_iter().find(|(holds, _)| *holds).map(|(_, words)| words)
 }
 
 /// The word for an outcome.
@@ -561,7 +605,45 @@ fn whatever_three_accounts_send_at_once_is_billed_as_the_log_says() {
         let refusals = told.lines().filter(|line| line.starts_with(begin) && line.ends_with(&end));
         assert_eq!(refusals.count(), *refused);
     }
+    assert_causes(&log, &lines, &taken);
     assert_varied(&lines, &taken, &accounts);
+}
+
+/// Asserts that `oxterin why` lists the frames of a log that came to nothing or were aborted, each with its line and its cause, and that it
+/// and `oxterin bill` count them, by cause and by account. Those of no bytes are not among them.
+fn assert_causes(log: &Path, lines: &[Line], taken: &[Taken]) {
+    let numbers = text(log);
+    let numbers = (1..)
+        .zip(numbers.lines())
+        .filter(|(_, line)| !line.starts_with('#'))
+        .map(|(number, _)| number);
+    let all = numbers.zip(lines).zip(taken).filter(|((_, line), _)| !line.bytes.is_empty());
+    let missed = all.filter_map(|((number, line), taken)| Some((number, line.account, name(taken.outcome), taken.cause?)));
+    let missed: Vec<(usize, u8, &str, &str)> = missed.collect();
+    let listed = on_log("why", log, &["--all"]);
+    let entries: Vec<&str> = listed.lines().take_while(|line| !line.is_empty()).collect();
+    assert_eq!(entries.len(), missed.len());
+    for (entry, (number, account, outcome, cause)) in entries.iter().zip(&missed) {
+        let (begin, middle) = (format!("line {number}: "), format!(" account={account} > {outcome}: {cause}"));
+        assert!(entry.starts_with(&begin) && entry.contains(&middle), "{entry}");
+    }
+    let (mut causes, mut accounts) = (BTreeMap::<&str, usize>::new(), BTreeMap::<(u8, &str), usize>::new());
+    for (_, account, _, cause) in missed {
+        *causes.entry(cause).or_default() += 1;
+        *accounts.entry((account, cause)).or_default() += 1;
+    }
+    let words = |line: &str| line.replace(',', "").split_whitespace().collect::<Vec<_>>().join(" ");
+    let counted = |text: &str, row: &str| text.lines().any(|line| words(line).starts_with(row));
+    for (cause, count) in causes {
+        assert!(counted(&listed, &format!("{count} {cause} line ")), "{count} {cause}: {listed}");
+    }
+    let bill = on_log("bill", log, &[]);
+    for ((account, cause), count) in accounts {
+        assert!(
+            counted(&bill, &format!("{account} {count} {cause} line ")),
+            "{account} {count} {cause}: {bill}"
+        );
+    }
 }
 
 /// Asserts that a series is not a dull one: all changes begin, all outcomes come about, resets stop operations, and many a frame lets ticks
@@ -581,6 +663,8 @@ fn assert_varied(lines: &[Line], taken: &[Taken], accounts: &[u8]) {
     let outcomes: BTreeSet<&str> = taken.iter().map(|taken| name(taken.outcome)).collect();
     assert_eq!(outcomes.len(), 5);
     assert!(taken.iter().any(|taken| taken.stopped));
+    let causes: BTreeSet<&str> = taken.iter().filter_map(|taken| taken.cause).collect();
+    assert!(causes.len() >= 10, "{causes:?}");
     let others = both().filter(|(line, taken)| taken.billed.is_some_and(|(account, _)| account != line.account));
     assert!(others.count() > 100);
 }
@@ -630,7 +714,7 @@ fn the_json_log_has_the_same_frames_with_output_and_ticks_billed() {
     let lines: Vec<&str> = lines.lines().filter(|line| !line.starts_with("# oxterin serve 20")).collect();
     assert_eq!(objects.lines().count(), lines.len());
     let (mut twin, mut tick, mut totals) = (Twin::new(&SHORT), 0, BTreeMap::<u8, u64>::new());
-    let mut refusals = 0;
+    let (mut refusals, mut causes) = (0, BTreeSet::new());
     for (line, object) in lines.into_iter().zip(objects.lines()) {
         let Some(frame) = Line::read(line) else {
             let [at, account, sent, read, refusal] = values(object, ["tick", "account", "sent", "read", "refusal"]).map(number);
@@ -643,16 +727,15 @@ fn the_json_log_has_the_same_frames_with_output_and_ticks_billed() {
             refusals += 1;
             continue;
         };
-        let keys = ["tick", "account", "bytes", "output", "outcome", "billed", "billed_to"];
-        let [at, account, bytes, output, outcome, billed, billed_to] = values(object, keys);
+        let keys = ["tick", "account", "bytes", "output", "outcome", "cause", "billed", "billed_to"];
+        let [at, account, bytes, output, outcome, cause, billed, billed_to] = values(object, keys);
         let taken = twin.take(&frame);
         tick += frame.ticks();
         assert_eq!((number(at), number(account)), (tick, frame.account.into()));
         assert_eq!((inner(bytes), inner(output)), (&pairs(&frame.bytes)[..], &pairs(&taken.output)[..]));
-        assert_eq!(
-            (inner(outcome), &frame.said),
-            (name(taken.outcome), &format!("ST {:02X} {}", taken.status, name(taken.outcome)))
-        );
+        assert_eq!((inner(outcome), &frame.said), (name(taken.outcome), &taken.comment()));
+        assert_eq!((cause != "null").then(|| inner(cause)), taken.cause, "{line}");
+        causes.extend(taken.cause);
         let billed = match (number(billed), billed_to) {
             (0, "null") => None,
             (ticks, account) => Some((u8::try_from(number(account)).expect("an account"), ticks)),
@@ -664,6 +747,7 @@ fn the_json_log_has_the_same_frames_with_output_and_ticks_billed() {
     }
     assert_eq!(refusals, refused);
     assert!(refused > 0);
+    assert!(causes.is_superset(&BTreeSet::from(["busy", "latch clear"])), "{causes:?}");
     let bill = of_log(&log);
     assert_eq!(bill, twin.bill());
     let billed = bill.lines().skip(1).map(|row| {
@@ -697,7 +781,7 @@ fn books_go_on_from_server_to_server_and_are_closed_for_a_month() {
     assert!(first.ends_when_asked());
     let wanted = format!("{HEADS}20,300000,300000,1\n");
     assert_eq!((of_books(&state), of_log(&log)), (wanted.clone(), wanted));
-    assert!(text(&log).ends_with("\n/0 +50000 account=20 # ST 11 nothing\n"));
+    assert!(text(&log).ends_with("\n/0 +50000 account=20 # ST 11 nothing: too few bits\n"));
     let shown = says(&["state", word(&state)]);
     assert!(
         shown.contains("700,000 ticks left of an operation of account 20, billed so far for 300,000\n"),
@@ -900,16 +984,20 @@ fn counter<'a>(page: &'a str, what: &str) -> Option<&'a str> {
     rows.filter(|rest| rest.starts_with("  ")).map(str::trim).next()
 }
 
-/// Account 0 enables a write and erases 4 KiB, 50,000 ticks, of which 20,000 pass before a poll: three frames. Two more are too long. There
-/// is about a second between two pages.
+/// Account 0 enables a write and erases 4 KiB, 50,000 ticks, of which 20,000 pass before a poll: three frames. Two more come while the part
+/// is busy, and a third, of no bytes, asks for nothing. Two more are too long. There is about a second between two pages.
 #[test]
 fn the_page_of_counters_follows_and_a_signal_has_it_said() {
     let page = folder("status").join("page");
     let server = Server::start(&["--status", word(&page)]);
     let begun = text(&page);
     assert_eq!(
-        (counter(&begun, "frames"), counter(&begun, "refused, number 3")),
-        (Some("0"), None),
+        (
+            counter(&begun, "frames"),
+            counter(&begun, "refused, number 3"),
+            counter(&begun, "not carried out, busy")
+        ),
+        (Some("0"), None, None),
         "{begun}"
     );
     let since = counter(&begun, "since").expect("a date");
@@ -918,11 +1006,15 @@ fn the_page_of_counters_follows_and_a_signal_has_it_said() {
     client.frame(&[0x20, 0x00, 0x00, 0x00], &[]);
     client.wait(20_000);
     client.frame(&[0x05], &[0x11]);
+    client.frame(&[0x06], &[]);
+    client.frame(&[0xC7], &[]);
+    client.frame(&[], &[]);
     client.ask(&operation(0, 8_193), &[NAK]);
     client.ask(&[&operation(8_193, 0)[..], &[0x04; 8_193]].concat(), &[NAK]);
     let wanted = [
         ("since", since),
-        ("frames", "3"),
+        ("frames", "6"),
+        ("not carried out, busy", "2"),
         ("refused, number 3", "2"),
         ("busy ticks billed", "20,000"),
         ("busy ticks left", "30,000"),
@@ -934,6 +1026,7 @@ fn the_page_of_counters_follows_and_a_signal_has_it_said() {
     server.signal("USR1");
     let said = server.says("strangers hung up on");
     assert!(is_wanted(&said), "{said}");
+    assert_eq!(said.matches("not carried out").count(), 1, "{said}");
     let written = |page: &Path| fs::metadata(page).and_then(|there| there.modified()).expect("a time");
     let before = written(&page);
     drop(client);
@@ -962,7 +1055,7 @@ fn logs_are_added_to() {
         };
         assert!(head.starts_with("# oxterin serve 20") && head.contains(begin), "{head}");
         assert_eq!(line, "05 00 account=0 # ST 10 read");
-        let object = r#"{"tick":0,"account":0,"bytes":"0500","output":"FF10","outcome":"read","billed":0,"billed_to":null}"#;
+        let object = r#"{"tick":0,"account":0,"bytes":"0500","output":"FF10","outcome":"read","cause":null,"billed":0,"billed_to":null}"#;
         assert_eq!(after.1, format!("{}{object}\n", before.1));
         before = after;
     }

@@ -407,8 +407,8 @@ fn the_log_has_a_line_for_each_frame() {
 05 00 00 +7 account=0 # ST 11 read
 # refused: 0 bytes sent, 8193 to be read: refusal 3: a frame has at most 8,192 bytes; account=0
 03 00 00 00 00 00 00 00 00 00 00 00 00 00 00 00 00 00 00 00 +13 account=0 # ST 10 read
-81 00 00 00 account=0 # ST 10 nothing
-/0 account=0 # ST 10 nothing
+81 00 00 00 account=0 # ST 10 nothing: latch clear
+/0 account=0 # ST 10 nothing: too few bits
 ";
     assert_eq!(lines_after(&log, " --set longer-program=20"), wanted);
 }
@@ -436,7 +436,7 @@ fn the_log_has_the_ticks_of_a_byte_and_the_level_of_wp() {
     assert!(server.ends_well());
     let wanted = "\
 06 @8 wp=low account=9 # ST 06 control
-02 00 00 00 11 22 +7 @8 wp=low account=9 # ST 04 aborted
+02 00 00 00 11 22 +7 @8 wp=low account=9 # ST 04 aborted: protected
 ";
     assert_eq!(lines_after(&log, " --size 65536 --bp0"), wanted);
 }

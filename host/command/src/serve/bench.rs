@@ -3,6 +3,7 @@ use super::clock::Clock;
 use super::counts::Counts;
 use super::log::{Log, Refused, Told};
 use crate::desk::{Desk, Sent};
+use crate::missed::why_not;
 use oxterin::{Refusal, Signals};
 use std::sync::{Condvar, Mutex, MutexGuard, PoisonError};
 use std::time::{Duration, Instant};
@@ -103,7 +104,8 @@ impl Bench {
             };
             shared.tell(|log| log.tell(|line| told.line(line)), |log| log.tell(|line| told.json(line)));
         }
-        shared.counts.frame(sent.billed.map_or(0, |billed| billed.ticks));
+        let cause = why_not(&sent.exchange.answer, signals.bits);
+        shared.counts.frame(sent.billed.map_or(0, |billed| billed.ticks), cause);
         self.happened(shared);
         Ok(sent)
     }

@@ -1,7 +1,7 @@
 //! What a server counts, for people who watch it.
 use crate::desk::Desk;
 use crate::lines::thousands;
-use oxterin::Refusal;
+use oxterin::{Cause, Refusal};
 use std::time::{Duration, SystemTime};
 
 /// Counters since the server started.
@@ -9,6 +9,7 @@ pub struct Counts {
     since: SystemTime,
     frames: u64,
     busy: u128,
+    missed: [u64; Cause::ALL.len()],
     refused: [u64; Refusal::ALL.len()],
     clients: u64,
     present: u64,
@@ -23,6 +24,7 @@ impl Counts {
             since: SystemTime::now(),
             frames: 0,
             busy: 0,
+            missed: [0; Cause::ALL.len()],
             refused: [0; Refusal::ALL.len()],
             clients: 0,
             present: 0,
@@ -31,10 +33,13 @@ impl Counts {
         }
     }
 
-    /// A frame was accepted, and so many busy ticks were billed with it.
-    pub fn frame(&mut self, busy: u64) {
+    /// A frame was accepted, and so many busy ticks were billed with it. If it was not carried out, there is a cause.
+    pub fn frame(&mut self, busy: u64, cause: Option<Cause>) {
         self.frames += 1;
         self.busy += u128::from(busy);
+        if let Some(cause) = cause {
+            self.missed[cause.number() as usize - 1] += 1;
+        }
     }
 
     /// A frame was refused.
@@ -68,29 +73,32 @@ impl Counts {
         self.frames
     }
 
-    /// The page of counters.
+    /// The page of counters. Causes and refusals that did not occur are left out.
     pub fn page(&self, desk: &Desk) -> String {
+        let missed = Cause::ALL.iter().zip(self.missed).filter(|(_, count)| *count > 0);
+        let missed = missed.map(|(cause, count)| (format!("not carried out, {cause}"), thousands(count)));
         let refused = Refusal::ALL.iter().zip(self.refused).filter(|(_, count)| *count > 0);
         let refused = refused.map(|(refusal, count)| (format!("refused, number {}", refusal.number()), thousands(count)));
-        let rows = [
-            ("since".to_string(), date(self.since)),
-            ("frames".to_string(), thousands(self.frames)),
-        ]
-        .into_iter()
-        .chain(refused)
-        .chain(
-            [
-                ("busy ticks billed", thousands(self.busy)),
-                ("busy ticks left", thousands(desk.part.record.busy)),
-                ("tick", thousands(desk.tick)),
-                ("clients served now", thousands(self.present)),
-                ("clients served", thousands(self.clients)),
-                ("silent ones dropped", thousands(self.let_go)),
-                ("strangers hung up on", thousands(self.strangers)),
-            ]
-            .map(|(what, number)| (what.to_string(), number)),
-        );
-        rows.map(|(what, number)| format!("{what:<22}{number}\n")).collect()
+        let first = [("since", date(self.since)), ("frames", thousands(self.frames))];
+        let last = [
+            ("busy ticks billed", thousands(self.busy)),
+            ("busy ticks left", thousands(desk.part.record.busy)),
+            ("tick", thousands(desk.tick)),
+            ("clients served now", thousands(self.present)),
+            ("clients served", thousands(self.clients)),
+            ("silent ones dropped", thousands(self.let_go)),
+            ("strangers hung up on", thousands(self.strangers)),
+        ];
+        let named = |(what, number): (&str, String)| (what.to_string(), number);
+        let rows: Vec<(String, String)> = first
+            .map(named)
+            .into_iter()
+            .chain(missed)
+            .chain(refused)
+            .chain(last.map(named))
+            .collect();
+        let width = 2 + rows.iter().map(|(what, _)| what.len()).max().unwrap_or(0);
+        rows.iter().map(|(what, number)| format!("{what:<width$}{number}\n")).collect()
     }
 }
 
@@ -140,8 +148,8 @@ mod tests {
     fn the_page_has_a_line_for_each_counter() {
         let mut counts = Counts::new();
         counts.since = SystemTime::UNIX_EPOCH;
-        counts.frame(50_000);
-        counts.frame(0);
+        counts.frame(50_000, None);
+        counts.frame(0, None);
         counts.refusal(Refusal::InputLength);
         counts.come();
         counts.come();
@@ -160,5 +168,27 @@ silent ones dropped   0
 strangers hung up on  1
 ";
         assert_eq!(counts.page(&Desk::new(Part::blank(Size::Small))), wanted);
+    }
+    /// The numbers stand below each other, two blanks after the longest words.
+    #[test]
+    fn the_page_has_a_line_for_each_cause_that_occurred() {
+        let mut counts = Counts::new();
+        counts.since = SystemTime::UNIX_EPOCH;
+        for cause in [Cause::AlreadyAwake, Cause::LatchClear, Cause::TooFewBits, Cause::LatchClear] {
+            counts.frame(0, Some(cause));
+        }
+        counts.frame(0, None);
+        counts.refusal(Refusal::InputLength);
+        let wanted = "\
+since                           1970-01-01T00:00:00Z
+frames                          5
+not carried out, too few bits   1
+not carried out, latch clear    2
+not carried out, already awake  1
+refused, number 3               1
+busy ticks billed               0
+";
+        let page = counts.page(&Desk::new(Part::blank(Size::Small)));
+        assert!(page.starts_with(wanted), "{page}");
     }
 }

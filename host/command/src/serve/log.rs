@@ -1,7 +1,7 @@
 //! What a server writes down of its frames: lines that `oxterin run` and `oxterin bill` read, and JSON.
 use crate::complaint::{complain, complaint, Complaint};
 use crate::desk::{Billed, Sent};
-use oxterin::{Refusal, Signals};
+use oxterin::{Answer, Refusal, Signals};
 use std::fs::{self, File, OpenOptions, TryLockError};
 use std::io::{self, BufReader, ErrorKind, Read, Seek, SeekFrom, Write};
 use std::sync::Arc;
@@ -175,7 +175,12 @@ impl Told<'_> {
         line.extend(b" # ST ");
         pair(line, self.status);
         line.push(b' ');
-        line.extend(self.sent.exchange.answer.outcome.word().as_bytes());
+        let Answer { outcome, cause, .. } = self.sent.exchange.answer;
+        line.extend(outcome.word().as_bytes());
+        if let Some(cause) = cause {
+            line.extend(b": ");
+            line.extend(cause.words().as_bytes());
+        }
     }
 
     /// Its JSON object.
@@ -188,7 +193,16 @@ impl Told<'_> {
         joined(line, &exchange.output);
         line.extend(b"\",\"outcome\":\"");
         line.extend(exchange.answer.outcome.word().as_bytes());
-        line.extend(b"\",\"billed\":");
+        line.extend(b"\",\"cause\":");
+        match exchange.answer.cause {
+            Some(cause) => {
+                line.push(b'"');
+                line.extend(cause.words().as_bytes());
+                line.push(b'"');
+            }
+            None => line.extend(b"null"),
+        }
+        line.extend(b",\"billed\":");
         match self.sent.billed {
             Some(Billed { account, ticks }) => {
                 number(line, ticks.into());
@@ -311,7 +325,7 @@ mod tests {
             told(&poll, plain),
             [
                 "05 00 00 account=7 # ST 11 read",
-                r#"{"tick":0,"account":7,"bytes":"050000","output":"FF1101","outcome":"read","billed":0,"billed_to":null}"#
+                r#"{"tick":0,"account":7,"bytes":"050000","output":"FF1101","outcome":"read","cause":null,"billed":0,"billed_to":null}"#
             ]
         );
         let slow = Signals {
@@ -323,10 +337,31 @@ mod tests {
             told(&poll, slow),
             [
                 "05 00 00 +10 @8 wp=low account=7 # ST 00 read",
-                r#"{"tick":34,"account":7,"bytes":"050000","output":"FF0100","outcome":"read","billed":20,"billed_to":3}"#
+                r#"{"tick":34,"account":7,"bytes":"050000","output":"FF0100","outcome":"read","cause":null,"billed":20,"billed_to":3}"#
             ]
         );
-        assert_eq!(told(&[], Signals::whole(&[]))[0], "/0 account=7 # ST 11 nothing");
+    }
+
+    /// 20 ticks are left: the erase finds the part busy, or the latch clear when they are over.
+    #[test]
+    fn a_frame_that_was_not_carried_out_says_why() {
+        let erase = Signals::whole(&[0xC7]);
+        assert_eq!(
+            told(&[0xC7], erase),
+            [
+                "C7 account=7 # ST 11 nothing: busy",
+                r#"{"tick":0,"account":7,"bytes":"C7","output":"FF","outcome":"nothing","cause":"busy","billed":0,"billed_to":null}"#
+            ]
+        );
+        let late = Signals { elapsed: 20, ..erase };
+        assert_eq!(
+            told(&[0xC7], late),
+            [
+                "C7 +20 account=7 # ST 10 nothing: latch clear",
+                r#"{"tick":20,"account":7,"bytes":"C7","output":"FF","outcome":"nothing","cause":"latch clear","billed":20,"billed_to":3}"#
+            ]
+        );
+        assert_eq!(told(&[], Signals::whole(&[]))[0], "/0 account=7 # ST 11 nothing: too few bits");
     }
 
     #[test]
