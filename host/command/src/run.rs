@@ -35,7 +35,8 @@ Options:
                       driven positions, the ticks that the frame lasts, if any, and the busy ticks left; and, once
                       --account or a line has named an account, the ticks billed, if any, and to whom. oxterin
                       bill adds them up. After the last line comes how often each cause occurred, where first,
-                      and what to do about it; oxterin why says that alone
+                      and what to do about it; oxterin why says that alone. Without --explain a run that is
+                      started at a terminal says in the end how many frames were not carried out
 "
     )
 }

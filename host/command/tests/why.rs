@@ -262,6 +262,13 @@ fn a_state_is_only_read() {
     assert!(wrong.contains("--bp0 describes a fresh part"), "{wrong}");
 }
 
+/// README's example.
+#[test]
+fn a_latch_drops_after_every_erase() {
+    let said = says(&["why"], "06\n20 00 10 00\n05 00 +50000\n20 00 20 00\n");
+    assert_eq!(said.lines().last(), Some("line 4: 20 00 20 00 > nothing: latch clear since line 2"));
+}
+
 #[test]
 fn a_bad_line_or_a_refused_frame_is_named() {
     assert_eq!(
