@@ -1,6 +1,6 @@
 //! `oxterin run`: frames from text, answered line by line.
 use crate::complaint::{complain, complaint, Complaint};
-use crate::desk::Sent;
+use crate::desk::{Desk, Sent};
 use crate::frames::{self, Frame, Frames, LINE_HELP, UNSAID_HELP, UNSAID_VALUED};
 use crate::fresh::{PART_FLAGS, PART_HELP, PART_VALUED};
 use crate::history::History;
@@ -50,36 +50,51 @@ pub fn run(words: &[String]) -> Result<(), Complaint> {
     let mut saved = given.value("--save").map(image::hold).transpose()?;
     let (mut desk, mut kept) = state::desk(&given)?;
     let mut frames = Frames::open("run", &given)?;
-    let mut missed = Missed::none();
-    let mut history = given.has("--explain").then(History::default);
-    let mut accounts = false;
-    while let Some(next) = frames.next() {
-        let (line, frame) = next?;
-        let sent = match &mut history {
-            Some(history) => history.send(&mut desk, line, &frame),
-            None => desk.send(&frame).map(|sent| (sent, String::new())),
-        };
-        let (sent, came_to) = sent.map_err(|words| refused(&frames.place(), &words))?;
-        missed.note(line, &frame, &sent.exchange.answer);
-        accounts |= frame.named.is_some();
-        let answer = answered(&frame.input, &sent.exchange.output, desk.part.status(frame.signals.wp_high)[0]);
-        let more = match history.is_some() {
-            true => explained(&came_to, &frame, &sent, desk.part.record.busy, accounts),
-            false => String::new(),
-        };
-        say(&format!("{answer}{more}\n"))?;
-    }
-    if history.is_some() && !missed.is_empty() {
-        say(&format!("\n{}", advice::by_cause(&missed)))?;
+    match given.has("--explain") {
+        true => explain_all(&mut desk, &mut frames)?,
+        false => answer_all(&mut desk, &mut frames)?,
     }
     if let Some(held) = &mut saved {
         image::save(held, desk.part.array())?;
     }
-    kept.as_mut().map_or(Ok(()), |held| held.save(&state::encode(&desk)))?;
-    if history.is_none() {
-        hint(&missed);
+    kept.as_mut().map_or(Ok(()), |held| held.save(&state::encode(&desk)))
+}
+
+/// Answers all frames.
+fn answer_all(desk: &mut Desk, frames: &mut Frames) -> Result<(), Complaint> {
+    let mut missed = Missed::none();
+    while let Some(next) = frames.next() {
+        let (line, frame) = next?;
+        let sent = desk.send(&frame).map_err(|words| refused(&frames.place(), &words))?;
+        missed.note(line, &frame, &sent.exchange.answer);
+        say(&format!("{}\n", answer(desk, &frame, &sent)))?;
     }
+    hint(&missed);
     Ok(())
+}
+
+/// Answers and explains all frames, and says at the end why some were not carried out.
+fn explain_all(desk: &mut Desk, frames: &mut Frames) -> Result<(), Complaint> {
+    let (mut history, mut missed) = (History::default(), Missed::none());
+    let mut accounts = false;
+    while let Some(next) = frames.next() {
+        let (line, frame) = next?;
+        let sent = history.send(desk, line, &frame);
+        let (sent, came_to) = sent.map_err(|words| refused(&frames.place(), &words))?;
+        missed.note(line, &frame, &sent.exchange.answer);
+        accounts |= frame.named.is_some();
+        let more = explained(&came_to, &frame, &sent, desk.part.record.busy, accounts);
+        say(&format!("{}{more}\n", answer(desk, &frame, &sent)))?;
+    }
+    match missed.is_empty() {
+        true => Ok(()),
+        false => say(&format!("\n{}", advice::by_cause(&missed))),
+    }
+}
+
+/// The line that answers a frame.
+fn answer(desk: &Desk, frame: &Frame, sent: &Sent) -> String {
+    answered(&frame.input, &sent.exchange.output, desk.part.status(frame.signals.wp_high)[0])
 }
 
 /// The complaint of a refused frame.

@@ -1,6 +1,7 @@
 //! `oxterin why`: frames from text, and why those came to nothing or were aborted that did.
 use crate::advice::{self, NOTHING_MISSED};
 use crate::complaint::{complaint, Complaint};
+use crate::desk::Desk;
 use crate::frames::{self, Frame, Frames, LINE_HELP, UNSAID_HELP, UNSAID_VALUED};
 use crate::fresh::{PART_FLAGS, PART_HELP, PART_VALUED};
 use crate::glimpse::Glimpse;
@@ -57,22 +58,27 @@ pub fn why(words: &[String]) -> Result<(), Complaint> {
     let mut desk = state::seen(&given)?;
     let mut frames = Frames::open("why", &given)?;
     let mut list = List::begin(given.has("--all"));
-    let mut progress = (!list.all).then(|| Progress::begin(&frames));
+    let missed = play(&mut desk, &mut frames, &mut list)?;
+    list.end(&missed)
+}
+
+/// Sends all frames, and lists those that were not carried out. How far it is, is said where that disturbs no list.
+fn play(desk: &mut Desk, frames: &mut Frames, list: &mut List) -> Result<Missed, Complaint> {
     let (mut history, mut missed) = (History::default(), Missed::none());
+    let mut progress = (!list.all).then(|| Progress::begin(frames));
     while let Some(next) = frames.next() {
         let (line, frame) = next?;
-        let sent = history.send(&mut desk, line, &frame);
+        let sent = history.send(desk, line, &frame);
         let (sent, came_to) = sent.map_err(|words| complaint(format!("{}: {words}; put this line right first", frames.place())))?;
         missed.note(line, &frame, &sent.exchange.answer);
         if why_not(&sent.exchange.answer, frame.signals.bits).is_some() {
             list.add(&entry(line, &frame, &came_to))?;
         }
         if let Some(progress) = &mut progress {
-            progress.tell(&frames);
+            progress.tell(frames);
         }
     }
-    drop(progress);
-    list.end(&missed)
+    Ok(missed)
 }
 
 /// The line of a list for a frame.
