@@ -112,6 +112,23 @@ fn a_saturday_with_the_latch_is_billed_to_the_one_who_began_it() {
     );
 }
 
+/// The story in docs/SATURDAY.md shows the two kept bills as they are, moved to the right.
+#[test]
+fn the_story_shows_the_kept_bills() {
+    let story = fs::read_to_string(example("../docs/SATURDAY.md")).expect("the story");
+    for name in ["saturday-unlatched", "saturday-latched"] {
+        let kept = fs::read_to_string(example(&format!("{name}.bill"))).expect("the kept bill");
+        let moved: String = kept
+            .lines()
+            .map(|line| format!("    {line}").trim_end().to_string() + "\n")
+            .collect();
+        assert!(
+            story.contains(&format!("    ./oxterin bill examples/{name}.frames\n\n{moved}\n")),
+            "{name}"
+        );
+    }
+}
+
 /// Account 12's frame 06 in line 7 comes a tick before the erase ends and is ignored; line 9's is heard. The program in line 13 loses 3
 /// ticks by the read in line 14, 1,994 before the reset and 2 by the reset's own bytes. The page erase begins at the end of its frame, so
 /// that of the ticks 12 + 6 only the last 6 are billed.
