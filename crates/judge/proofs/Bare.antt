@@ -54,7 +54,7 @@ module _ (d : Device) (s : Settings) (f : Facts) (whole : onBoundary f ≡ true 
   reads x y u false false = u
 
   orders : (x : Judged) → uncaused x ≡ x → (even short : Bool)
-      → uncaused (cond even (cond short (nothing Incomplete d) x) (nothing OffBoundary d))
+      → uncaused (cond (not even) (nothing OffBoundary d) (cond short (nothing Incomplete d) x))
       ≡ cond (not short && (even || false)) x still
   orders x u true true = refl
   orders x u true false = u
@@ -63,8 +63,8 @@ module _ (d : Device) (s : Settings) (f : Facts) (whole : onBoundary f ≡ true 
 
   resets : (x : Judged) → uncaused x ≡ x → (rste key long even short : Bool) → (even ≡ true → short ≡ false → long ≡ true)
       → uncaused
-      (cond (rste && (key && long)) (cond even (cond short (nothing Incomplete d) x) (nothing OffBoundary d))
-      (nothing ResetUnconfirmed d))
+      (cond (not (rste && (key && long))) (nothing ResetUnconfirmed d)
+      (cond (not even) (nothing OffBoundary d) (cond short (nothing Incomplete d) x)))
       ≡ cond (not short && (even || false)) (cond (rste && key) x still) still
   resets x u false key long even short clash = either (not short && (even || false))
   resets x u true false long even short clash = either (not short && (even || false))
@@ -76,7 +76,7 @@ module _ (d : Device) (s : Settings) (f : Facts) (whole : onBoundary f ≡ true 
   works : (x : Judged) → uncaused x ≡ x → (cause : Cause) (wel even short shut : Bool)
       → uncaused
       (cond (not wel) (nothing LatchClear d)
-      (cond even (cond short (aborted Incomplete d) (cond shut (aborted cause d) x)) (aborted OffBoundary d)))
+      (cond (not even) (aborted OffBoundary d) (cond short (aborted Incomplete d) (cond shut (aborted cause d) x))))
       ≡ cond (not wel) still (cond (not short && (even || false)) (cond shut spent x) spent)
   works x u cause false even short shut = refl
   works x u cause true true true shut = refl

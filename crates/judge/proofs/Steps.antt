@@ -44,7 +44,7 @@ module _ (d : Device) (s : Settings) (f : Facts) where
   -- a control command that needs a boundary
   orders : (r : Row) (x : Judged) → r .latch ≡ false → (even short : Bool)
       → by-cause r x (cond (not even) OffBoundary (cond short Incomplete None))
-      ≡ cond even (cond short (nothing Incomplete d) x) (nothing OffBoundary d)
+      ≡ cond (not even) (nothing OffBoundary d) (cond short (nothing Incomplete d) x)
   orders r x l true short = reads r x l short
   orders r x l false short = rw l
 
@@ -55,7 +55,8 @@ module _ (d : Device) (s : Settings) (f : Facts) where
 
   resets : (r : Row) (x : Judged) → r .latch ≡ false → (sure even short : Bool)
       → by-cause r x (cond (not sure) ResetUnconfirmed (cond (not even) OffBoundary (cond short Incomplete None)))
-      ≡ cond sure (cond even (cond short (nothing Incomplete d) x) (nothing OffBoundary d)) (nothing ResetUnconfirmed d)
+      ≡ cond (not sure) (nothing ResetUnconfirmed d)
+      (cond (not even) (nothing OffBoundary d) (cond short (nothing Incomplete d) x))
   resets r x l true even short = orders r x l even short
   resets r x l false even short = refl
 
@@ -64,7 +65,7 @@ module _ (d : Device) (s : Settings) (f : Facts) where
       → (wel even short shut : Bool)
       → by-cause r x (cond (not wel) LatchClear (cond (not even) OffBoundary (cond short Incomplete (cond shut cause None))))
       ≡ cond (not wel) (nothing LatchClear d)
-      (cond even (cond short (aborted Incomplete d) (cond shut (aborted cause d) x)) (aborted OffBoundary d))
+      (cond (not even) (aborted OffBoundary d) (cond short (aborted Incomplete d) (cond shut (aborted cause d) x)))
   works r x l cause some dropping false even short shut = refl
   works r x l cause some dropping true false short shut = rw l
   works r x l cause some dropping true true true shut = rw l

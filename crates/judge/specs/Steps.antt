@@ -34,7 +34,7 @@ reading source r d f = cond (incomplete r f) (nothing Incomplete d) (read r sour
 -- a control command needs one
 abbrev pub bounded : Order → Row → Device → Facts → Judged
 bounded order r d f =
-    cond (onBoundary f) (cond (incomplete r f) (nothing Incomplete d) (ordered order d)) (nothing OffBoundary d)
+    cond (not (onBoundary f)) (nothing OffBoundary d) (cond (incomplete r f) (nothing Incomplete d) (ordered order d))
 
 -- a reset is confirmed first; a resume finds the part awake
 abbrev pub ordering : Order → Row → Device → Facts → Judged
@@ -43,7 +43,7 @@ ordering Disable r d f = bounded Disable r d f
 ordering DeepPowerDown r d f = bounded DeepPowerDown r d f
 ordering UltraDeepPowerDown r d f = bounded UltraDeepPowerDown r d f
 ordering Resume r d f = cond (incomplete r f) (nothing Incomplete d) (nothing AlreadyAwake d)
-ordering Reset r d f = cond (confirmed d f) (bounded Reset r d f) (nothing ResetUnconfirmed d)
+ordering Reset r d f = cond (not (confirmed d f)) (nothing ResetUnconfirmed d) (bounded Reset r d f)
 
 -- what may bar a command that needs WEL, and whether it does: protection, the OTP-used mark, BPL 1 with WP low
 abbrev pub bar : Work → Cause
@@ -60,14 +60,13 @@ barred Work.Otp d f = d .used
 barred Work.WriteStatus d f = d .bpl && not (f .wp)
 barred Work.WriteStatusTwo d f = false
 
--- with WEL 1 and on a boundary it is carried out or aborted
-abbrev pub tried : Work → Row → Device → Settings → Facts → Judged
-tried work r d s f =
-    cond (incomplete r f) (aborted Incomplete d) (cond (barred work d f) (aborted (bar work) d) (carried work d s f))
-
 abbrev pub working : Work → Row → Device → Settings → Facts → Judged
 working work r d s f =
-    cond (not (d .wel)) (nothing LatchClear d) (cond (onBoundary f) (tried work r d s f) (aborted OffBoundary d))
+    cond (not (d .wel)) (nothing LatchClear d)
+    (cond (not (onBoundary f)) (aborted OffBoundary d)
+    (cond (incomplete r f) (aborted Incomplete d)
+    (cond (barred work d f) (aborted (bar work) d)
+    (carried work d s f))))
 
 abbrev pub byOpcode : Command → Row → Device → Settings → Facts → Judged
 byOpcode Unlisted r d s f = nothing UnknownOpcode d

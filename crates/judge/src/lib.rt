@@ -248,18 +248,11 @@ fn aborted(cause: Cause, device: Device) -> Judged
     quiet(Outcome::Aborted(cause), device.dropped())
 }
 
-// Whether a frame has fewer bytes than its row needs.
-fn is_incomplete(row: Row, facts: Facts) -> bool
-    ensures { λ r. ⌜ r ≡ steps.incomplete row facts ⌝ }
-{
-    facts.bytes < row.bytes as usize
-}
-
 // A read, which needs no boundary.
 fn reading(source: Source, row: Row, device: Device, facts: Facts) -> Judged
     ensures { λ r. ⌜ r ≡ steps.reading source row device facts ⌝ }
 {
-    if is_incomplete(row, facts) {
+    if facts.bytes < row.bytes as usize {
         return nothing(Cause::Incomplete, device);
     }
     read(row, source, device, facts)
@@ -269,40 +262,33 @@ fn reading(source: Source, row: Row, device: Device, facts: Facts) -> Judged
 fn bounded(order: Order, row: Row, device: Device, facts: Facts) -> Judged
     ensures { λ r. ⌜ r ≡ steps.bounded order row device facts ⌝ }
 {
-    if on_boundary(facts) {
-        if is_incomplete(row, facts) {
-            return nothing(Cause::Incomplete, device);
-        }
-        return ordered(order, device);
+    if !on_boundary(facts) {
+        return nothing(Cause::OffBoundary, device);
     }
-    nothing(Cause::OffBoundary, device)
+    if facts.bytes < row.bytes as usize {
+        return nothing(Cause::Incomplete, device);
+    }
+    ordered(order, device)
 }
 
 // A resume, which finds the part awake.
 fn resumed(row: Row, device: Device, facts: Facts) -> Judged
     ensures { λ r. ⌜ r ≡ steps.ordering Order.Resume row device facts ⌝ }
 {
-    if is_incomplete(row, facts) {
+    if facts.bytes < row.bytes as usize {
         return nothing(Cause::Incomplete, device);
     }
     nothing(Cause::AlreadyAwake, device)
 }
 
-// Whether a reset is enabled, and confirmed by a second byte that was clocked whole.
-fn is_confirmed(device: Device, facts: Facts) -> bool
-    ensures { λ r. ⌜ r ≡ causes.confirmed device facts ⌝ }
-{
-    device.rste & ((facts.second == 0xD0) & (16 <= facts.bits))
-}
-
-// A reset.
+// A reset, which has to be enabled, and confirmed by a second byte that was clocked whole.
 fn reset(row: Row, device: Device, facts: Facts) -> Judged
     ensures { λ r. ⌜ r ≡ steps.ordering Order.Reset row device facts ⌝ }
 {
-    if is_confirmed(device, facts) {
-        return bounded(Order::Reset, row, device, facts);
+    if !(device.rste & ((facts.second == 0xD0) & (16 <= facts.bits))) {
+        return nothing(Cause::ResetUnconfirmed, device);
     }
-    nothing(Cause::ResetUnconfirmed, device)
+    bounded(Order::Reset, row, device, facts)
 }
 
 // A control command.
@@ -345,30 +331,23 @@ fn barred(work: Work, device: Device, facts: Facts) -> bool
     }
 }
 
-// A command that needs the latch, has it and is on a boundary: carried out or aborted.
-fn tried(work: Work, row: Row, device: Device, settings: Settings, facts: Facts) -> Judged
-    ensures { λ r. ⌜ r ≡ steps.tried work row device settings facts ⌝ }
-{
-    if is_incomplete(row, facts) {
-        return aborted(Cause::Incomplete, device);
-    }
-    if barred(work, device, facts) {
-        return aborted(bar(work), device);
-    }
-    carried(work, device, settings, facts)
-}
-
-// A command that needs the latch.
+// A command that needs the latch: with it, carried out or aborted.
 fn working(work: Work, row: Row, device: Device, settings: Settings, facts: Facts) -> Judged
     ensures { λ r. ⌜ r ≡ steps.working work row device settings facts ⌝ }
 {
     if !device.wel {
         return nothing(Cause::LatchClear, device);
     }
-    if on_boundary(facts) {
-        return tried(work, row, device, settings, facts);
+    if !on_boundary(facts) {
+        return aborted(Cause::OffBoundary, device);
     }
-    aborted(Cause::OffBoundary, device)
+    if facts.bytes < row.bytes as usize {
+        return aborted(Cause::Incomplete, device);
+    }
+    if barred(work, device, facts) {
+        return aborted(bar(work), device);
+    }
+    carried(work, device, settings, facts)
 }
 
 // By opcode, an awake part that hears the frame.
