@@ -119,13 +119,14 @@ module _ (d : Device) (s : Settings) (f : Facts) where
             → listed ≡ byOpcode (Works work) row d s f
         by Work.Program e n =
             rw (ap awake m, few, heard, e, n .0, n .1, n .3)
-            (works _ _ refl (bar Work.Program) refl refl (d .wel) (onBoundary f) (incomplete row f) (d .bp0))
+            (works _ _ refl (bar Work.Program) refl refl (d .wel) (onBoundary f) (incomplete row f) (barred Work.Program d f))
         by (Work.Erase region) e n =
             rw (ap awake m, few, heard, e, n .0, n .1, n .3)
-            (works _ _ refl (bar (Work.Erase region)) refl refl (d .wel) (onBoundary f) (incomplete row f) (d .bp0))
+            (works _ _ refl (bar (Work.Erase region)) refl refl (d .wel) (onBoundary f) (incomplete row f)
+            (barred (Work.Erase region) d f))
         by Work.Otp e n =
             rw (ap awake m, few, heard, e, n .0, n .1, n .3)
-            (works _ _ refl (bar Work.Otp) refl refl (d .wel) (onBoundary f) (incomplete row f) (d .used))
+            (works _ _ refl (bar Work.Otp) refl refl (d .wel) (onBoundary f) (incomplete row f) (barred Work.Otp d f))
         by Work.WriteStatus e n =
             rw (ap awake m, few, heard, e, n .0, n .1, n .3)
             (works _ _ refl (bar Work.WriteStatus) refl refl (d .wel) (onBoundary f) (incomplete row f)
