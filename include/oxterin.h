@@ -471,6 +471,39 @@ static inline const char *oxterin_outcome_word(oxterin_outcome outcome) {
     return "unknown";
 }
 
+/* The words for a cause. */
+static inline const char *oxterin_cause_words(oxterin_cause cause) {
+    switch (cause) {
+    case OXTERIN_NO_CAUSE:
+        return "none";
+    case OXTERIN_TOO_FEW_BITS:
+        return "too few bits";
+    case OXTERIN_ASLEEP:
+        return "asleep";
+    case OXTERIN_BUSY:
+        return "busy";
+    case OXTERIN_UNKNOWN_OPCODE:
+        return "unknown opcode";
+    case OXTERIN_LATCH_CLEAR:
+        return "latch clear";
+    case OXTERIN_RESET_UNCONFIRMED:
+        return "reset not enabled or not confirmed";
+    case OXTERIN_OFF_BOUNDARY:
+        return "off boundary";
+    case OXTERIN_INCOMPLETE:
+        return "incomplete";
+    case OXTERIN_PROTECTED:
+        return "protected";
+    case OXTERIN_LOCKED:
+        return "locked";
+    case OXTERIN_ALREADY_PROGRAMMED:
+        return "already programmed";
+    case OXTERIN_ALREADY_AWAKE:
+        return "already awake";
+    }
+    return "unknown";
+}
+
 /* What a refusal says. */
 static inline const char *oxterin_refusal_text(oxterin_refusal refusal) {
     switch (refusal) {

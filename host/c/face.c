@@ -248,6 +248,9 @@ static void refusals(void) {
     record.mode = (oxterin_mode)3;
     CHECK(send_bytes(poll, 2, 0) == OXTERIN_UNREAD && output[0] == 0xEE && record.mode == (oxterin_mode)3);
     CHECK(strcmp(oxterin_outcome_word(OXTERIN_ABORTED), "aborted") == 0);
+    CHECK(strcmp(oxterin_cause_words(OXTERIN_LATCH_CLEAR), "latch clear") == 0);
+    CHECK(strcmp(oxterin_cause_words(OXTERIN_ALREADY_AWAKE), "already awake") == 0);
+    CHECK(strcmp(oxterin_cause_words(OXTERIN_NO_CAUSE), "none") == 0);
     CHECK(strcmp(oxterin_refusal_text(OXTERIN_DURATION), "a duration is 0 or over 60,000,000 ticks") == 0);
 }
 
