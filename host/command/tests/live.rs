@@ -4,7 +4,7 @@ mod common;
 
 use common::server::{operation, refusal, until, Client, Server, ACK, NAK};
 use common::{complaint, word};
-use model::{Books, Mode, Outcome, Pins, Record, Running, Settings, Tables};
+use model::{Books, Cause, Outcome, Pins, Record, Running, Settings, Tables};
 use std::collections::{BTreeMap, BTreeSet};
 use std::fs;
 use std::io::Read;
@@ -196,7 +196,6 @@ impl Twin {
         let mut output = vec![0; line.bytes.len()];
         let before = self.books.tables().totals;
         let left = self.record.busy.saturating_sub(line.ticks());
-        let cause = cause(&self.record, line);
         let answer = self.books.frame(
             self.record,
             &self.settings,
@@ -208,15 +207,13 @@ impl Twin {
             line.account.into(),
         );
         assert_eq!(answer.refusal, 0, "{:02X?}", line.bytes);
-        let not_carried_out = matches!(answer.outcome, Outcome::Nothing | Outcome::Aborted);
-        assert_eq!(cause.is_some(), not_carried_out, "{cause:?}: {:02X?}", line.bytes);
         self.record = answer.record;
         let after = self.books.tables().totals;
         let billed = (0..=255u8).find(|account| before[usize::from(*account)] != after[usize::from(*account)]);
         Taken {
             output,
             outcome: answer.outcome,
-            cause,
+            cause: answer.cause.map(Cause::words),
             status: self.record.status(line.wp_high)[0],
             billed: billed.map(|account| (account, after[usize::from(account)] - before[usize::from(account)])),
             stopped: left > 0 && self.record.busy == 0,
@@ -245,41 +242,6 @@ impl Twin {
     fn close(&mut self) {
         self.books.close();
     }
-}
-
-/// Why a frame of whole bytes comes to nothing or is aborted on a part that it finds like this: of request R-5's list the first that holds,
-/// by document 01. A part in ultra-deep power-down is woken by any frame.
-fn cause(found: &Record, line: &Line) -> Option<&'static str> {
-    const READS_AND_ORDERS: [u8; 12] = [0x03, 0x0B, 0x77, 0x05, 0x9F, 0x15, 0x06, 0x04, 0xB9, 0x79, 0xAB, 0xF0];
-    if found.mode == Mode::UltraDeep {
-        return None;
-    }
-    let Some(opcode) = line.bytes.first() else {
-        return Some("too few bits");
-    };
-    let busy = found.busy > line.elapsed;
-    let confirmed = found.rste && line.bytes.get(1) == Some(&0xD0);
-    let on_array = [0x02, 0x81, 0x20, 0x52, 0xD8, 0x60, 0x62, 0xC7].contains(opcode);
-    let latched = on_array || [0x9B, 0x01, 0x31].contains(opcode);
-    let needed = match opcode {
-        0x02 | 0x9B => 5,
-        0x81 | 0x20 | 0x52 | 0xD8 => 4,
-        0x01 | 0x31 => 2,
-        _ => 1,
-    };
-    let causes = [
-        (found.mode == Mode::Deep && *opcode != 0xAB, "asleep"),
-        (busy && ![0x05, 0xF0].contains(opcode), "busy"),
-        (!latched && !READS_AND_ORDERS.contains(opcode), "unknown opcode"),
-        (latched && !found.wel, "latch clear"),
-        (*opcode == 0xF0 && !confirmed, "reset not enabled or not confirmed"),
-        (line.bytes.len() < needed, "incomplete"),
-        (on_array && found.bp0, "protected"),
-        (*opcode == 0x01 && found.bpl && !line.wp_high, "locked"),
-        (*opcode == 0x9B && found.otp_used, "already programmed"),
-        (*opcode == 0xAB && found.mode == Mode::Awake, "already awake"),
-    ];
-    causes.into_iter().find(|(holds, _)| *holds).map(|(_, words)| words)
 }
 
 /// The word for an outcome.
