@@ -18,8 +18,8 @@ use Rattle.part.specs.Frame.{Reply}
 abbrev pub isLent : ℕ → ℕ → ℕ → Bool
 isLent oldest all long = leb oldest long && leb long all
 
--- how many words the record has, the settings, the signals and the answer; and how many signals, and words of an answer,
--- the oldest caller knows of
+-- how many words the record has, the settings, the signals and the answer; and how many of the signals and of the
+-- answer the oldest caller knows of
 abbrev pub recordWords : ℕ
 recordWords = 7
 
@@ -136,8 +136,8 @@ unfolding placeOf
 causePlace words =
     placeOf words
     ("none" ∷ "too few bits" ∷ "asleep" ∷ "busy" ∷ "unknown opcode" ∷ "latch clear" ∷
-    "reset not enabled or not confirmed" ∷ "off boundary" ∷ "incomplete" ∷ "protected" ∷ "locked" ∷ "already programmed" ∷
-    "already awake" ∷ [])
+    "reset not enabled or not confirmed" ∷ "off boundary" ∷ "incomplete" ∷ "protected" ∷ "locked" ∷
+    "already programmed" ∷ "already awake" ∷ [])
 
 -- the answer: the outcome, the first driven position, how many are driven, and the cause, of which the oldest caller
 -- knows nothing

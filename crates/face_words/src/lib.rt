@@ -13,7 +13,9 @@ ghost use mathlib.Core.Path.{_≡_};
 ghost use Prim.Native.Nat.{_≤_};
 ghost use lib.ListN.{length, getD};
 ghost use Rattle.part.specs.Words as part;
-ghost use Rattle.face_words.specs.Words.{isLent, answerLent, asLent, wordOf, modeNumber, modeOf, memoryOf, packed, isRecord, deviceOf, isSettings, settingsOf, isSignals, signalsOf, outcomeNumber, causePlace, numberIf, writtenIf};
+ghost use Rattle.face_words.specs.Words.{isLent, answerLent, asLent, wordOf, modeNumber, modeOf, memoryOf};
+ghost use Rattle.face_words.specs.Words.{packed, isRecord, deviceOf, isSettings, settingsOf, isSignals};
+ghost use Rattle.face_words.specs.Words.{signalsOf, outcomeNumber, causePlace, numberIf, writtenIf};
 ghost use Rattle.judge.specs.Causes.{causeWords};
 
 // A byte as a word.
@@ -219,7 +221,8 @@ pub fn is_answer(long: usize) -> bool
 pub fn tell(answer: &mut [u64], outcome: u64, first: u64, driven: u64, cause: u64)
     ensures { λ _. ⌜
         now (answer .exit) ≡
-        writtenIf (answerLent (length (now (answer .entry)))) (outcome ∷ first ∷ driven ∷ cause ∷ []) (now (answer .entry))
+        writtenIf (answerLent (length (now (answer .entry)))) (outcome ∷ first ∷ driven ∷ cause ∷ [])
+        (now (answer .entry))
         ⌝ }
 {
     if answer.len() == ANSWER {

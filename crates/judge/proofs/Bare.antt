@@ -61,7 +61,8 @@ module _ (d : Device) (s : Settings) (f : Facts) (whole : onBoundary f ≡ true 
   orders x u false true = refl
   orders x u false false = refl
 
-  resets : (x : Judged) → uncaused x ≡ x → (rste key long even short : Bool) → (even ≡ true → short ≡ false → long ≡ true)
+  resets : (x : Judged) → uncaused x ≡ x → (rste key long even short : Bool)
+      → (even ≡ true → short ≡ false → long ≡ true)
       → uncaused
       (cond (not (rste && (key && long))) (nothing ResetUnconfirmed d)
       (cond (not even) (nothing OffBoundary d) (cond short (nothing Incomplete d) x)))
@@ -128,7 +129,8 @@ module _ (d : Device) (s : Settings) (f : Facts) (whole : onBoundary f ≡ true 
           → (row .boundary ≡ true) × (row .latch ≡ true) × (row .busy ≡ false) × (row .asleep ≡ false)
           → uncaused (steps.byOpcode (row .command) row d s f) ≡ byOpcode row d s f
       by Work.Program e n =
-          rw (e, n .0, n .1, enough) (works _ refl (bar Work.Program) (d .wel) (onBoundary f) (incomplete row f) (d .bp0))
+          rw (e, n .0, n .1, enough)
+          (works _ refl (bar Work.Program) (d .wel) (onBoundary f) (incomplete row f) (d .bp0))
       by (Work.Erase region) e n =
           rw (e, n .0, n .1, enough)
           (works _ refl (bar (Work.Erase region)) (d .wel) (onBoundary f) (incomplete row f) (d .bp0))

@@ -65,7 +65,8 @@ module _ (d : Device) (s : Settings) (f : Facts) where
       or-quiet false = refl
 
       by : (b : Bool)
-          → changes (cond b (obeyed (row .command) row d s f) (cond (drops cause row) (aborted cause d) (nothing cause d)))
+          → changes
+          (cond b (obeyed (row .command) row d s f) (cond (drops cause row) (aborted cause d) (nothing cause d)))
           ≡ (b && meansArray (row .command))
       by true = obeyed-when (row .command)
       by false = or-quiet (drops cause row)
@@ -140,7 +141,9 @@ module _ (d : Device) (s : Settings) (f : Facts) where
           (cond (ltb (f .bytes) (row .bytes)) Incomplete
           (cond (d .bp0) Protected None)))))))
           ≡ asReady
-      all = listed (ltb (f .bits) 8) (awake (d .mode)) (f .busy) (d .wel) (onBoundary f) (ltb (f .bytes) (row .bytes)) (d .bp0)
+      all =
+          listed (ltb (f .bits) 8) (awake (d .mode)) (f .busy) (d .wel) (onBoundary f) (ltb (f .bytes) (row .bytes))
+          (d .bp0)
 
       by : (work : Work) → worksOnArray work ≡ true → row .command ≡ Works work
           → (row .boundary ≡ true) × (row .latch ≡ true) × (row .busy ≡ false) × (row .asleep ≡ false)
@@ -161,7 +164,8 @@ module _ (d : Device) (s : Settings) (f : Facts) where
       other : (command : Command) → row .command ≡ command → meansArray command ≡ false
           → (isNone (causeOf row d f) && meansArray (row .command)) ≡ ready d f
       other command e m =
-          rw (ap meansArray e ∙ m) (and-false (isNone (causeOf row d f)) ∙ never (not (ltb (f .bits) 8)) (awake (d .mode)) (not (f .busy)))
+          rw (ap meansArray e ∙ m)
+          (and-false (isNone (causeOf row d f)) ∙ never (not (ltb (f .bits) 8)) (awake (d .mode)) (not (f .busy)))
 
       of-work : (work : Work) (b : Bool) → row .command ≡ Works work → worksOnArray work ≡ b
           → (isNone (causeOf row d f) && meansArray (row .command)) ≡ ready d f

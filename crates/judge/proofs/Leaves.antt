@@ -105,7 +105,8 @@ module _ (d : Device) (s : Settings) (f : Facts) (P : Judged → Type 0)
 
   pub each-kind : P (judged d s f)
   each-kind =
-      each-answer d s f P (λ n. quietly (Outcome.Nothing cause) d) (λ n. quietly (Outcome.Aborted cause) (dropped d)) (λ u. quietly Outcome.Control (woken d)) (λ e. quietly Outcome.Control (moved d Awake)) reading
+      each-answer d s f P (λ n. quietly (Outcome.Nothing cause) d) (λ n. quietly (Outcome.Aborted cause) (dropped d))
+      (λ u. quietly Outcome.Control (woken d)) (λ e. quietly Outcome.Control (moved d Awake)) reading
       (λ order e h. of-order order) (λ work e h. carrying work e)
 
 -- no position behind the frame's last one is driven
@@ -232,10 +233,12 @@ stays-sound d s f u fair still =
     asleep : (mode : Mode) (order : Order) → rowOf (f .code) .command ≡ Orders order → orderedWhileBusy order ≡ false → Heard d f
         → unsound (moved d mode) ≡ false
     asleep mode order e o h =
-        let none : d .busy ≤ 0 = ltb-false 0 (d .busy) (still (found-idle d f (order-needs (f .code) order e .2 ∙ o) h)) in
+        let none : d .busy ≤ 0 =
+        ltb-false 0 (d .busy) (still (found-idle d f (order-needs (f .code) order e .2 ∙ o) h)) in
         then-sound (moved d mode) (record { short = sound-then d u .short; idle = λ n. omega arith })
 
-    of-order : (order : Order) → rowOf (f .code) .command ≡ Orders order → Heard d f → unsound (ordered order d .device) ≡ false
+    of-order : (order : Order) → rowOf (f .code) .command ≡ Orders order → Heard d f
+        → unsound (ordered order d .device) ≡ false
     of-order Enable e h = u
     of-order Disable e h = u
     of-order DeepPowerDown e h = asleep Deep DeepPowerDown e refl h

@@ -63,7 +63,8 @@ module _ (d : Device) (s : Settings) (f : Facts) where
   -- a command that needs WEL, with what may bar it
   works : (r : Row) (x : Judged) → r .latch ≡ true → (cause : Cause) → isNone cause ≡ false → drops cause r ≡ true
       → (wel even short shut : Bool)
-      → by-cause r x (cond (not wel) LatchClear (cond (not even) OffBoundary (cond short Incomplete (cond shut cause None))))
+      → by-cause r x
+      (cond (not wel) LatchClear (cond (not even) OffBoundary (cond short Incomplete (cond shut cause None))))
       ≡ cond (not wel) (nothing LatchClear d)
       (cond (not even) (aborted OffBoundary d) (cond short (aborted Incomplete d) (cond shut (aborted cause d) x)))
   works r x l cause some dropping false even short shut = refl
@@ -119,7 +120,8 @@ module _ (d : Device) (s : Settings) (f : Facts) where
             → listed ≡ byOpcode (Works work) row d s f
         by Work.Program e n =
             rw (ap awake m, few, heard, e, n .0, n .1, n .3)
-            (works _ _ refl (bar Work.Program) refl refl (d .wel) (onBoundary f) (incomplete row f) (barred Work.Program d f))
+            (works _ _ refl (bar Work.Program) refl refl (d .wel) (onBoundary f) (incomplete row f)
+            (barred Work.Program d f))
         by (Work.Erase region) e n =
             rw (ap awake m, few, heard, e, n .0, n .1, n .3)
             (works _ _ refl (bar (Work.Erase region)) refl refl (d .wel) (onBoundary f) (incomplete row f)
@@ -168,7 +170,8 @@ module _ (d : Device) (s : Settings) (f : Facts) where
   by-steps = by (d .mode) refl (ltb (f .bits) 8) refl
     where
       by : (m : Mode) → d .mode ≡ m → (b : Bool) → ltb (f .bits) 8 ≡ b
-          → cond (ultraDeep (d .mode)) (control (woken d)) (cond (wakes row d f) (ordered Resume d) listed) ≡ stepped d s f
+          → cond (ultraDeep (d .mode)) (control (woken d)) (cond (wakes row d f) (ordered Resume d) listed)
+          ≡ stepped d s f
       by UltraDeep m few t = rw (ap ultraDeep m)
       by Deep m true t = rw (ap ultraDeep m, ap deep m, t) (short-frame t)
       by Deep m false t = rw (ap ultraDeep m, ap deep m, t) (sleeps (ap awake m) t (row .asleep && onBoundary f))

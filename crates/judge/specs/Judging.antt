@@ -101,8 +101,7 @@ obeyed (Reads source) r d s f = read r source d f
 obeyed (Orders order) r d s f = ordered order d
 obeyed (Works work) r d s f = carried work d s f
 
--- without a cause that keeps it from it a command is carried out; with one it is aborted if it needs WEL and has it, and
--- else nothing comes of it
+-- without a cause a command is carried out; with one it is aborted, if it needs WEL and has it, or comes to nothing
 unfoldable pub ended : Cause → Row → Device → Settings → Facts → Judged
 ended cause r d s f =
     cond (isNone cause) (obeyed (r .command) r d s f)

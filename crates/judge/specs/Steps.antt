@@ -1,5 +1,5 @@
--- Judging a frame step by step, as the code goes: which of the causes each opcode knows, in the list's order. That it is
--- judging by the list is a law. Assumes nothing.
+-- Judging a frame step by step, as the code goes: which of the causes each opcode knows, in the list's order. That it
+-- is judging by the list is a law. Assumes nothing.
 use Prim.Native.Nat.{ℕ}
 use mathlib.Core.Bool.{Bool, false, cond, not, _&&_}
 use lib.Dec.{ltb}

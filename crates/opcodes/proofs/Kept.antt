@@ -50,9 +50,12 @@ module _ (code : ℕ) where
       → (row .boundary ≡ orderedOnBoundary order) × (row .latch ≡ false) × (row .busy ≡ orderedWhileBusy order)
       × (row .bytes ≡ orderedBytes order)
   order-needs order e =
-      let spoken = and-eq-true-iff _ (eqb (row .bytes) (orderedBytes order)) .0 (and-eq-true-iff _ _ .0 (kept (Orders order) e) .0) in
+      let spoken =
+      and-eq-true-iff _ (eqb (row .bytes) (orderedBytes order)) .0
+      (and-eq-true-iff _ _ .0 (kept (Orders order) e) .0) in
       let heard = and-eq-true-iff _ (Bool·beq (row .busy) (orderedWhileBusy order)) .0 (spoken .0) in
-      let first = and-eq-true-iff (Bool·beq (row .boundary) (orderedOnBoundary order)) (not (row .latch)) .0 (heard .0) in (
+      let first =
+      and-eq-true-iff (Bool·beq (row .boundary) (orderedOnBoundary order)) (not (row .latch)) .0 (heard .0) in (
         same (row .boundary) _ (first .0),
         not-true (row .latch) (first .1),
         same (row .busy) _ (heard .1),
@@ -63,6 +66,8 @@ module _ (code : ℕ) where
   pub work-needs : (work : Work) → row .command ≡ Works work
       → (row .boundary ≡ true) × (row .latch ≡ true) × (row .busy ≡ false) × (row .asleep ≡ false)
   work-needs work e =
-      let heard = and-eq-true-iff (row .boundary && row .latch) (not (row .busy)) .0 (and-eq-true-iff _ _ .0 (kept (Works work) e) .0) in
+      let heard =
+      and-eq-true-iff (row .boundary && row .latch) (not (row .busy)) .0
+      (and-eq-true-iff _ _ .0 (kept (Works work) e) .0) in
       let first = and-eq-true-iff (row .boundary) (row .latch) .0 (heard .0) in
       (first .0, first .1, not-true (row .busy) (heard .1), asleep-is (Works work) e)

@@ -102,8 +102,10 @@ same-answer a b p q r s t u =
 -- an answer is told by its number and word
 pub same-reply : (a b : Answer) → replyOf a ≡ replyOf b → a ≡ b
 same-reply a b e =
-    same-answer a b (number-tells (a .refusal) (b .refusal) (ap (λ (r : Reply). r .refusal) e)) (words-tell (a .outcome) (b .outcome) (ap (λ (r : Reply). r .outcome) e) (ap (λ (r : Reply). r .cause) e))
-    (ap (λ (r : Reply). r .first) e) (ap (λ (r : Reply). r .driven) e) (ap (λ (r : Reply). r .covered) e) (ap (λ (r : Reply). r .device) e)
+    same-answer a b (number-tells (a .refusal) (b .refusal) (ap (λ (r : Reply). r .refusal) e))
+    (words-tell (a .outcome) (b .outcome) (ap (λ (r : Reply). r .outcome) e) (ap (λ (r : Reply). r .cause) e))
+    (ap (λ (r : Reply). r .first) e) (ap (λ (r : Reply). r .driven) e) (ap (λ (r : Reply). r .covered) e)
+    (ap (λ (r : Reply). r .device) e)
 
 -- there is no other answer
 pub one-answer : (c : Call) (m : Lent) (a b : Answer) (n o : Lent) → Meets c m a n → Meets c m b o → (a ≡ b) × (n ≡ o)

@@ -117,7 +117,8 @@ module _ (c : Call) (m : Lent) where
   pub no-cause-exactly : takesEffect c (lengthsOf c m)
       ≡ (eqb (numberFor c (lengthsOf c m)) 0 && (isNone (causeFor c) && meansArray (rowOf (factsOf c .code) .command)))
   no-cause-exactly =
-      ap (λ (b : Bool). eqb (numberFor c (lengthsOf c m)) 0 && b) (sym (no-cause-ready (risen c) (c .settings) (factsOf c)))
+      ap (λ (b : Bool). eqb (numberFor c (lengthsOf c m)) 0 && b)
+      (sym (no-cause-ready (risen c) (c .settings) (factsOf c)))
 
   -- on a boundary an accepted frame has eight bits for each byte
   whole : numberFor c (lengthsOf c m) ≡ 0 → onBoundary (factsOf c) ≡ true → c .signals .bits ≡ 8 * factsOf c .bytes

@@ -10,8 +10,8 @@ use Rattle.part.specs.Frame.{Call, Reply, risen, factsOf}
 abbrev pub isStopped : Reply → Bool
 isStopped r = eqt (r .outcome) "nothing" || eqt (r .outcome) "aborted"
 
--- whether a cause holds of a frame: by the record at its rise, what is known of it, and whether the part was busy at its
--- first bit
+-- whether a cause holds of a frame: by the record at its rise, what is known of it, and whether the part was busy at
+-- its first bit
 abbrev pub holdsOf : Call → Cause → Bool
 holdsOf c cause = holds cause (rowOf (factsOf c .code)) (risen c) (factsOf c)
 

@@ -22,8 +22,8 @@ ghost use Rattle.refusals.specs.Refusals.{numberOf};
 ghost use Rattle.calls.specs.Refusal.{bytesFor};
 ghost use Rattle.part.specs.Frame as spec;
 
-// Why the call was refused, its outcome with its cause, the first driven position, how many are driven, the range of the array that it
-// covered, and the record as it then stands.
+// Why the call was refused, its outcome with its cause, the first driven position, how many are driven, the range of
+// the array that it covered, and the record as it then stands.
 pub struct Answer {
     pub refusal: Refusal,
     pub outcome: Outcome,

@@ -31,7 +31,8 @@ returns : tie.Need-returns
 returns c =
     c .as-word .ensures ∙
     (c .before .number .ensures ∙
-    (ap causeNumber (c .before .before .cause-in .ensures) ∙ placed (causeIn (c .before .before .before .args .outcome))))
+    (ap causeNumber (c .before .before .cause-in .ensures) ∙
+    placed (causeIn (c .before .before .before .args .outcome))))
 
 pub cause-number-spec : {M : Type 1} → statement M
 cause-number-spec =

@@ -31,7 +31,8 @@ neither long p q = by (leb 3 long) refl
         (lt-leb long 3 (omega (arith, p, q)), lt-leb long 4 (omega (arith, p, q)))
 
 older : (a b c d : ℕ) (old : List ℕ) → (length old ≡ 4 → ⊥)
-    → writtenIf (isLent 3 3 (length old)) (a ∷ b ∷ c ∷ []) old ≡ writtenIf (answerLent (length old)) (a ∷ b ∷ c ∷ d ∷ []) old
+    → writtenIf (isLent 3 3 (length old)) (a ∷ b ∷ c ∷ []) old
+    ≡ writtenIf (answerLent (length old)) (a ∷ b ∷ c ∷ d ∷ []) old
 older a b c d old q = by (ℕ-discrete (length old) 3)
   where
     by : Dec (length old ≡ 3)
@@ -51,7 +52,8 @@ returns-2 : tie.Need-returns-2
 returns-2 c =
     let args = c .before .before .before .before .before .before .before .args in
     c .before .before .write2 .ensures .1 ∙
-    older (args .outcome) (args .first) (args .driven) (args .cause) (now (args .answer)) (c .before .before .before .before .before .if1 .left)
+    older (args .outcome) (args .first) (args .driven) (args .cause) (now (args .answer))
+    (c .before .before .before .before .before .if1 .left)
 
 pub tell-spec : {M : Type 1} → statement M
 tell-spec =

@@ -14,7 +14,8 @@ on-one : (c : tie.Else2) → not (onBoundary (c .before .before .before .before 
 on-one c = rw (c .before .on-boundary .ensures) at (c .if2 .left)
 
 complete : (c : tie.Else3)
-    → (let args = c .before .before .before .before .before .before .before .args in incomplete (args .row) (args .facts) ≡ false)
+    → (let args = c .before .before .before .before .before .before .before .args in
+    incomplete (args .row) (args .facts) ≡ false)
 complete c = le-ltb _ _ (c .if3 .left)
 
 returns : tie.Need-returns
