@@ -16,7 +16,7 @@ use Rattle.judge.specs.declared.Cause.the-variants.{None, TooFewBits, As
 use Rattle.judge.specs.declared.Cause.the-variants.{ResetUnconfirmed, OffBoundary, Incomplete, Protected, Locked}
 use Rattle.judge.specs.declared.Cause.the-variants.{AlreadyProgrammed, AlreadyAwake}
 
--- each by its number and its words: its place in the list; 0 for none
+-- each cause by its number, which is its place in the list, and by its words; none is 0
 abbrev pub causeNumber : Cause → ℕ
 causeNumber None = 0
 causeNumber TooFewBits = 1
@@ -58,7 +58,8 @@ onBoundary f = eqb (f .bits % 8) 0
 abbrev pub confirmed : Device → Facts → Bool
 confirmed d f = d .rste && (eqb (f .second) 0xD0 && leb 16 (f .bits))
 
--- when each cause holds
+-- when each cause holds: by the row of the opcode, the record and the frame. What a part in deep power-down answers, ABh,
+-- is of no use to one that is awake.
 abbrev pub holds : Cause → Row → Device → Facts → Bool
 holds None r d f = false
 holds TooFewBits r d f = ltb (f .bits) 8
@@ -85,7 +86,10 @@ abbrev pub firstOf : (Cause → Bool) → List Cause → Cause
 firstOf test [] = None
 firstOf test (cause ∷ rest) = cond (test cause) cause (firstOf test rest)
 
--- it is of the list and holds, and none before it does
+unfoldable pub causeOf : Row → Device → Facts → Cause
+causeOf r d f = firstOf (λ cause. holds cause r d f) causes
+
+-- that it is the first: it is of the list and holds, and none before it does
 abbrev pub NoneOf : (Cause → Bool) → List Cause → Type 0
 NoneOf test [] = Unit {0}
 NoneOf test (cause ∷ rest) = (test cause ≡ false) × NoneOf test rest
@@ -97,10 +101,7 @@ pub record IsFirst (test : Cause → Bool) (list : List Cause) (cause : Cause) :
   pub held : test cause ≡ true
   pub none-earlier : NoneOf test earlier
 
-unfoldable pub causeOf : Row → Device → Facts → Cause
-causeOf r d f = firstOf (λ cause. holds cause r d f) causes
-
--- a frame with this cause drops WEL, which its command needed and had
+-- a frame with this cause is aborted and drops WEL, which its command needed and had
 abbrev pub drops : Cause → Row → Bool
 drops None r = false
 drops TooFewBits r = false
