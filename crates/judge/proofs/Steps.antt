@@ -22,10 +22,10 @@ use Rattle.judge.specs.declared.Facts.{Facts}
 use Rattle.judge.specs.declared.Judged.{Judged}
 use Rattle.judge.specs.declared.Cause.{Cause}
 use Rattle.judge.specs.declared.Cause.the-variants.{None, TooFewBits, Asleep, Busy, LatchClear, ResetUnconfirmed}
-use Rattle.judge.specs.declared.Cause.the-variants.{OffBoundary, Incomplete, AlreadyAwake}
+use Rattle.judge.specs.declared.Cause.the-variants.{OffBoundary, Incomplete}
 use Rattle.judge.specs.Causes.{isNone, onBoundary, confirmed, causeOf, drops}
 use Rattle.judge.specs.Judging.{nothing, aborted, control, ordered, ended, wakes, judged}
-use Rattle.judge.specs.Steps.{incomplete, bar, barred, byOpcode, stepped}
+use Rattle.judge.specs.Steps.{bar, barred, byOpcode, stepped}
 
 module _ (d : Device) (s : Settings) (f : Facts) where
   abbrev row : Row
@@ -35,30 +35,17 @@ module _ (d : Device) (s : Settings) (f : Facts) where
   abbrev by-cause : Row → Judged → Cause → Judged
   by-cause r x cause = cond (isNone cause) x (cond (drops cause r) (aborted cause d) (nothing cause d))
 
-  -- a read
-  reads : (r : Row) (x : Judged) → r .latch ≡ false → (short : Bool)
-      → by-cause r x (cond short Incomplete None) ≡ cond short (nothing Incomplete d) x
-  reads r x l true = rw l
-  reads r x l false = refl
-
   -- a control command that needs a boundary
-  orders : (r : Row) (x : Judged) → r .latch ≡ false → (even short : Bool)
-      → by-cause r x (cond (not even) OffBoundary (cond short Incomplete None))
-      ≡ cond (not even) (nothing OffBoundary d) (cond short (nothing Incomplete d) x)
-  orders r x l true short = reads r x l short
-  orders r x l false short = rw l
+  orders : (r : Row) (x : Judged) → r .latch ≡ false → (even : Bool)
+      → by-cause r x (cond (not even) OffBoundary None) ≡ cond (not even) (nothing OffBoundary d) x
+  orders r x l true = refl
+  orders r x l false = rw l
 
-  resumes : (r : Row) (x : Judged) → r .latch ≡ false → (short : Bool)
-      → by-cause r x (cond short Incomplete AlreadyAwake) ≡ cond short (nothing Incomplete d) (nothing AlreadyAwake d)
-  resumes r x l true = rw l
-  resumes r x l false = refl
-
-  resets : (r : Row) (x : Judged) → r .latch ≡ false → (sure even short : Bool)
-      → by-cause r x (cond (not sure) ResetUnconfirmed (cond (not even) OffBoundary (cond short Incomplete None)))
-      ≡ cond (not sure) (nothing ResetUnconfirmed d)
-      (cond (not even) (nothing OffBoundary d) (cond short (nothing Incomplete d) x))
-  resets r x l true even short = orders r x l even short
-  resets r x l false even short = refl
+  resets : (r : Row) (x : Judged) → r .latch ≡ false → (sure even : Bool)
+      → by-cause r x (cond (not sure) ResetUnconfirmed (cond (not even) OffBoundary None))
+      ≡ cond (not sure) (nothing ResetUnconfirmed d) (cond (not even) (nothing OffBoundary d) x)
+  resets r x l true even = orders r x l even
+  resets r x l false even = refl
 
   -- a command that needs WEL, with what may bar it
   works : (r : Row) (x : Judged) → r .latch ≡ true → (cause : Cause) → isNone cause ≡ false → drops cause r ≡ true
@@ -69,7 +56,7 @@ module _ (d : Device) (s : Settings) (f : Facts) where
       (cond (not even) (aborted OffBoundary d) (cond short (aborted Incomplete d) (cond shut (aborted cause d) x)))
   works r x l cause some dropping false even short shut = refl
   works r x l cause some dropping true false short shut = rw l
-  works r x l cause some dropping true true true shut = rw l
+  works r x l cause some dropping true true true shut = refl
   works r x l cause some dropping true true false true = rw (some, dropping)
   works r x l cause some dropping true true false false = refl
 
@@ -87,7 +74,6 @@ module _ (d : Device) (s : Settings) (f : Facts) where
     of-read source e =
         let needs = read-needs (f .code) source e in
         rw (ap awake m, few, heard, e, needs .0, needs .1, asleep-is (f .code) (Reads source) e)
-        (reads _ _ refl (incomplete row f))
 
     of-order : (order : Order) → row .command ≡ Orders order → listed ≡ byOpcode (Orders order) row d s f
     unfolding ended causeOf
@@ -99,17 +85,17 @@ module _ (d : Device) (s : Settings) (f : Facts) where
             → row .asleep ≡ resuming order
             → listed ≡ byOpcode (Orders order) row d s f
         by Enable e n a =
-            rw (ap awake m, few, heard, e, n .0, n .1, a) (orders _ _ refl (onBoundary f) (incomplete row f))
+            rw (ap awake m, few, heard, e, n .0, n .1, a) (orders _ _ refl (onBoundary f))
         by Disable e n a =
-            rw (ap awake m, few, heard, e, n .0, n .1, a) (orders _ _ refl (onBoundary f) (incomplete row f))
+            rw (ap awake m, few, heard, e, n .0, n .1, a) (orders _ _ refl (onBoundary f))
         by DeepPowerDown e n a =
-            rw (ap awake m, few, heard, e, n .0, n .1, a) (orders _ _ refl (onBoundary f) (incomplete row f))
+            rw (ap awake m, few, heard, e, n .0, n .1, a) (orders _ _ refl (onBoundary f))
         by UltraDeepPowerDown e n a =
-            rw (ap awake m, few, heard, e, n .0, n .1, a) (orders _ _ refl (onBoundary f) (incomplete row f))
-        by Resume e n a = rw (ap awake m, few, heard, e, n .0, n .1, a) (resumes _ _ refl (incomplete row f))
+            rw (ap awake m, few, heard, e, n .0, n .1, a) (orders _ _ refl (onBoundary f))
+        by Resume e n a = rw (ap awake m, few, heard, e, n .0, n .1, a)
         by Reset e n a =
             rw (ap awake m, few, heard, e, n .0, n .1, a)
-            (resets _ _ refl (confirmed d f) (onBoundary f) (incomplete row f))
+            (resets _ _ refl (confirmed d f) (onBoundary f))
 
     of-work : (work : Work) → row .command ≡ Works work → listed ≡ byOpcode (Works work) row d s f
     unfolding ended causeOf
@@ -120,22 +106,22 @@ module _ (d : Device) (s : Settings) (f : Facts) where
             → listed ≡ byOpcode (Works work) row d s f
         by Work.Program e n =
             rw (ap awake m, few, heard, e, n .0, n .1, n .3)
-            (works _ _ refl (bar Work.Program) refl refl (d .wel) (onBoundary f) (incomplete row f)
+            (works _ _ refl (bar Work.Program) refl refl (d .wel) (onBoundary f) (ltb (f .bytes) (row .bytes))
             (barred Work.Program d f))
         by (Work.Erase region) e n =
             rw (ap awake m, few, heard, e, n .0, n .1, n .3)
-            (works _ _ refl (bar (Work.Erase region)) refl refl (d .wel) (onBoundary f) (incomplete row f)
+            (works _ _ refl (bar (Work.Erase region)) refl refl (d .wel) (onBoundary f) (ltb (f .bytes) (row .bytes))
             (barred (Work.Erase region) d f))
         by Work.Otp e n =
             rw (ap awake m, few, heard, e, n .0, n .1, n .3)
-            (works _ _ refl (bar Work.Otp) refl refl (d .wel) (onBoundary f) (incomplete row f) (barred Work.Otp d f))
+            (works _ _ refl (bar Work.Otp) refl refl (d .wel) (onBoundary f) (ltb (f .bytes) (row .bytes)) (barred Work.Otp d f))
         by Work.WriteStatus e n =
             rw (ap awake m, few, heard, e, n .0, n .1, n .3)
-            (works _ _ refl (bar Work.WriteStatus) refl refl (d .wel) (onBoundary f) (incomplete row f)
+            (works _ _ refl (bar Work.WriteStatus) refl refl (d .wel) (onBoundary f) (ltb (f .bytes) (row .bytes))
             (barred Work.WriteStatus d f))
         by Work.WriteStatusTwo e n =
             rw (ap awake m, few, heard, e, n .0, n .1, n .3)
-            (works _ _ refl (bar Work.WriteStatus) refl refl (d .wel) (onBoundary f) (incomplete row f) false)
+            (works _ _ refl (bar Work.WriteStatus) refl refl (d .wel) (onBoundary f) (ltb (f .bytes) (row .bytes)) false)
 
     of-command : (command : Command) → row .command ≡ command → listed ≡ byOpcode command row d s f
     of-command Unlisted e = of-unlisted e

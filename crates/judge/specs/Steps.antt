@@ -1,12 +1,10 @@
 -- Judging a frame step by step, as the code goes: which of the causes each opcode knows, in the list's order. That it
 -- is judging by the list is a law. Assumes nothing.
-use Prim.Native.Nat.{ℕ}
 use mathlib.Core.Bool.{Bool, false, cond, not, _&&_}
 use lib.Dec.{ltb}
 use Rattle.opcodes.specs.declared.Row.{Row}
 use Rattle.opcodes.specs.declared.Command.{Command}
 use Rattle.opcodes.specs.declared.Command.the-variants.{Unlisted, Reads, Orders, Works}
-use Rattle.opcodes.specs.declared.Source.{Source}
 use Rattle.opcodes.specs.declared.Order.{Order}
 use Rattle.opcodes.specs.declared.Order.the-variants.{Enable, Disable, DeepPowerDown, UltraDeepPowerDown, Resume, Reset}
 use Rattle.opcodes.specs.declared.Work.{Work}
@@ -23,27 +21,18 @@ use Rattle.judge.specs.declared.Cause.the-variants.{AlreadyProgrammed, A
 use Rattle.judge.specs.Causes.{onBoundary, confirmed}
 use Rattle.judge.specs.Judging.{nothing, aborted, control, read, ordered, carried}
 
--- fewer bytes than the row needs
-abbrev pub incomplete : Row → Facts → Bool
-incomplete r f = ltb (f .bytes) (r .bytes)
+-- a control command needs a boundary
+abbrev pub bounded : Order → Device → Facts → Judged
+bounded order d f = cond (not (onBoundary f)) (nothing OffBoundary d) (ordered order d)
 
--- a read needs no boundary
-abbrev pub reading : Source → Row → Device → Facts → Judged
-reading source r d f = cond (incomplete r f) (nothing Incomplete d) (read r source d f)
-
--- a control command needs one
-abbrev pub bounded : Order → Row → Device → Facts → Judged
-bounded order r d f =
-    cond (not (onBoundary f)) (nothing OffBoundary d) (cond (incomplete r f) (nothing Incomplete d) (ordered order d))
-
--- a reset is confirmed first; a resume finds the part awake
-abbrev pub ordering : Order → Row → Device → Facts → Judged
-ordering Enable r d f = bounded Enable r d f
-ordering Disable r d f = bounded Disable r d f
-ordering DeepPowerDown r d f = bounded DeepPowerDown r d f
-ordering UltraDeepPowerDown r d f = bounded UltraDeepPowerDown r d f
-ordering Resume r d f = cond (incomplete r f) (nothing Incomplete d) (nothing AlreadyAwake d)
-ordering Reset r d f = cond (not (confirmed d f)) (nothing ResetUnconfirmed d) (bounded Reset r d f)
+-- but a resume finds the part awake, and a reset is confirmed first
+abbrev pub ordering : Order → Device → Facts → Judged
+ordering Enable d f = bounded Enable d f
+ordering Disable d f = bounded Disable d f
+ordering DeepPowerDown d f = bounded DeepPowerDown d f
+ordering UltraDeepPowerDown d f = bounded UltraDeepPowerDown d f
+ordering Resume d f = nothing AlreadyAwake d
+ordering Reset d f = cond (not (confirmed d f)) (nothing ResetUnconfirmed d) (bounded Reset d f)
 
 -- what may bar a command that needs WEL, and whether it does: protection, the OTP-used mark, BPL 1 with WP low
 abbrev pub bar : Work → Cause
@@ -64,14 +53,14 @@ abbrev pub working : Work → Row → Device → Settings → Facts → Judged
 working work r d s f =
     cond (not (d .wel)) (nothing LatchClear d)
     (cond (not (onBoundary f)) (aborted OffBoundary d)
-    (cond (incomplete r f) (aborted Incomplete d)
+    (cond (ltb (f .bytes) (r .bytes)) (aborted Incomplete d)
     (cond (barred work d f) (aborted (bar work) d)
     (carried work d s f))))
 
 abbrev pub byOpcode : Command → Row → Device → Settings → Facts → Judged
 byOpcode Unlisted r d s f = nothing UnknownOpcode d
-byOpcode (Reads source) r d s f = reading source r d f
-byOpcode (Orders order) r d s f = ordering order r d f
+byOpcode (Reads source) r d s f = read r source d f
+byOpcode (Orders order) r d s f = ordering order d f
 byOpcode (Works work) r d s f = working work r d s f
 
 -- in deep power-down only the row that says so is heard, on a boundary: ABh

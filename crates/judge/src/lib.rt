@@ -248,60 +248,37 @@ fn aborted(cause: Cause, device: Device) -> Judged
     quiet(Outcome::Aborted(cause), device.dropped())
 }
 
-// A read, which needs no boundary.
-fn reading(source: Source, row: Row, device: Device, facts: Facts) -> Judged
-    ensures { λ r. ⌜ r ≡ steps.reading source row device facts ⌝ }
-{
-    if facts.bytes < row.bytes as usize {
-        return nothing(Cause::Incomplete, device);
-    }
-    read(row, source, device, facts)
-}
-
 // A control command that needs a boundary.
-fn bounded(order: Order, row: Row, device: Device, facts: Facts) -> Judged
-    ensures { λ r. ⌜ r ≡ steps.bounded order row device facts ⌝ }
+fn bounded(order: Order, device: Device, facts: Facts) -> Judged
+    ensures { λ r. ⌜ r ≡ steps.bounded order device facts ⌝ }
 {
     if !on_boundary(facts) {
         return nothing(Cause::OffBoundary, device);
     }
-    if facts.bytes < row.bytes as usize {
-        return nothing(Cause::Incomplete, device);
-    }
     ordered(order, device)
 }
 
-// A resume, which finds the part awake.
-fn resumed(row: Row, device: Device, facts: Facts) -> Judged
-    ensures { λ r. ⌜ r ≡ steps.ordering Order.Resume row device facts ⌝ }
-{
-    if facts.bytes < row.bytes as usize {
-        return nothing(Cause::Incomplete, device);
-    }
-    nothing(Cause::AlreadyAwake, device)
-}
-
 // A reset, which has to be enabled, and confirmed by a second byte that was clocked whole.
-fn reset(row: Row, device: Device, facts: Facts) -> Judged
-    ensures { λ r. ⌜ r ≡ steps.ordering Order.Reset row device facts ⌝ }
+fn reset(device: Device, facts: Facts) -> Judged
+    ensures { λ r. ⌜ r ≡ steps.ordering Order.Reset device facts ⌝ }
 {
     if !(device.rste & ((facts.second == 0xD0) & (16 <= facts.bits))) {
         return nothing(Cause::ResetUnconfirmed, device);
     }
-    bounded(Order::Reset, row, device, facts)
+    bounded(Order::Reset, device, facts)
 }
 
-// A control command.
-fn ordering(order: Order, row: Row, device: Device, facts: Facts) -> Judged
-    ensures { λ r. ⌜ r ≡ steps.ordering order row device facts ⌝ }
+// A control command; a resume finds the part awake.
+fn ordering(order: Order, device: Device, facts: Facts) -> Judged
+    ensures { λ r. ⌜ r ≡ steps.ordering order device facts ⌝ }
 {
     match order {
-        Order::Enable => bounded(Order::Enable, row, device, facts),
-        Order::Disable => bounded(Order::Disable, row, device, facts),
-        Order::DeepPowerDown => bounded(Order::DeepPowerDown, row, device, facts),
-        Order::UltraDeepPowerDown => bounded(Order::UltraDeepPowerDown, row, device, facts),
-        Order::Resume => resumed(row, device, facts),
-        Order::Reset => reset(row, device, facts),
+        Order::Enable => bounded(Order::Enable, device, facts),
+        Order::Disable => bounded(Order::Disable, device, facts),
+        Order::DeepPowerDown => bounded(Order::DeepPowerDown, device, facts),
+        Order::UltraDeepPowerDown => bounded(Order::UltraDeepPowerDown, device, facts),
+        Order::Resume => nothing(Cause::AlreadyAwake, device),
+        Order::Reset => reset(device, facts),
     }
 }
 
@@ -357,8 +334,8 @@ fn by_opcode(row: Row, device: Device, settings: Settings, facts: Facts) -> Judg
     let command = row.command;
     match command {
         Command::Unlisted => nothing(Cause::UnknownOpcode, device),
-        Command::Reads(source) => reading(source, row, device, facts),
-        Command::Orders(order) => ordering(order, row, device, facts),
+        Command::Reads(source) => read(row, source, device, facts),
+        Command::Orders(order) => ordering(order, device, facts),
         Command::Works(work) => working(work, row, device, settings, facts),
     }
 }

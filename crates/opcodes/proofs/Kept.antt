@@ -38,12 +38,16 @@ module _ (code : ℕ) where
       not-true (row .latch) (and-eq-true-iff (not (row .latch)) _ .0 parts .0)
 
   -- of a read
-  pub read-needs : (source : Source) → row .command ≡ Reads source → (row .boundary ≡ false) × (row .latch ≡ false)
+  pub read-needs : (source : Source) → row .command ≡ Reads source
+      → (row .boundary ≡ false) × (row .latch ≡ false) × (row .bytes ≡ 1)
   read-needs source e =
-      let most = and-eq-true-iff _ (eqb (row .bytes) 1) .0 (and-eq-true-iff _ _ .0 (kept (Reads source) e) .0) .0 in
-      let first = and-eq-true-iff (not (row .boundary) && not (row .latch)) _ .0 most .0 in
-      let each = and-eq-true-iff (not (row .boundary)) (not (row .latch)) .0 first in
-      (not-true (row .boundary) (each .0), not-true (row .latch) (each .1))
+      let counted = and-eq-true-iff _ (eqb (row .bytes) 1) .0 (and-eq-true-iff _ _ .0 (kept (Reads source) e) .0) in
+      let first = and-eq-true-iff (not (row .boundary) && not (row .latch)) _ .0 (counted .0) .0 in
+      let each = and-eq-true-iff (not (row .boundary)) (not (row .latch)) .0 first in (
+        not-true (row .boundary) (each .0),
+        not-true (row .latch) (each .1),
+        eqb-true (row .bytes) 1 (counted .1),
+      )
 
   -- of a control command
   pub order-needs : (order : Order) → row .command ≡ Orders order

@@ -1,9 +1,6 @@
 -- What a call promises of its cause. Assumes nothing.
-use Prim.Native.Nat.{ℕ, _+_, _*_, _/_, _%_}
 use mathlib.Core.Bool.{Bool, true, false, true≢false, cond, not, _&&_, _||_}
 use mathlib.Core.Path.{_≡_, refl, sym, ap, _∙_}
-use native.Mathlib.Omega.{arith}
-use borrow.Author.Tests.{eqb-true, eq-eqb}
 use lib.Dec.{eqb}
 use lib.Text.{eqt}
 use Rattle.opcodes.specs.Rows.{rowOf}
@@ -20,7 +17,7 @@ use Rattle.judge.specs.declared.Cause.the-variants.{None, TooFewBits, Asleep, B
 use Rattle.judge.specs.declared.Cause.the-variants.{ResetUnconfirmed, OffBoundary, Incomplete, Protected, Locked}
 use Rattle.judge.specs.declared.Cause.the-variants.{AlreadyProgrammed, AlreadyAwake}
 use Rattle.judge.specs.declared.Outcome.{Outcome}
-use Rattle.judge.specs.Causes.{causeWords, isNone, causes, onBoundary, IsFirst, causeOf}
+use Rattle.judge.specs.Causes.{causeWords, isNone, causes, IsFirst, causeOf}
 use Rattle.judge.specs.Judging.{ordered, carried, judged}
 use Rattle.judge.specs.Bare.{uncaused, bare}
 use Rattle.judge.proofs.Causes.{hindered}
@@ -120,16 +117,9 @@ module _ (c : Call) (m : Lent) where
       ap (λ (b : Bool). eqb (numberFor c (lengthsOf c m)) 0 && b)
       (sym (no-cause-ready (risen c) (c .settings) (factsOf c)))
 
-  -- on a boundary an accepted frame has eight bits for each byte
-  whole : numberFor c (lengthsOf c m) ≡ 0 → onBoundary (factsOf c) ≡ true → c .signals .bits ≡ 8 * factsOf c .bytes
-  unfolding numberFor
-  whole e even =
-      let fits = accepted (c .device) (c .settings) (c .signals) (lengthsOf c m) e .fits in
-      let none = eqb-true (c .signals .bits % 8) 0 even in
-      omega (arith, fits, none)
-
   pub nothing-else-moved : frame c m .reply .refusal ≡ 0
       → uncaused (judgedOf c) ≡ bare (risen c) (c .settings) (factsOf c)
-  unfolding frame judgedOf
+  unfolding frame judgedOf numberFor
   nothing-else-moved e =
-      as-before (risen c) (c .settings) (factsOf c) (whole (sym (refusal-is c (lengthsOf c m)) ∙ e))
+      as-before (risen c) (c .settings) (factsOf c)
+      (accepted (c .device) (c .settings) (c .signals) (lengthsOf c m) (sym (refusal-is c (lengthsOf c m)) ∙ e) .fits)

@@ -10,7 +10,7 @@ returns : tie.Need-returns
 returns c = rw (c .before .enum-told .given .1, c .nothing .ensures)
 
 returns-2 : tie.Need-returns-2
-returns-2 c = rw (c .before .before .command .given .1, c .reading .ensures)
+returns-2 c = rw (c .before .before .command .given .1, c .read .ensures)
 
 returns-3 : tie.Need-returns-3
 returns-3 c =

@@ -5,7 +5,6 @@ use borrow.Author.Needs.{needs}
 use borrow.Author.Tests.{lt-ltb, le-ltb}
 use lib.Dec.{ltb}
 use Rattle.judge.specs.Causes.{onBoundary}
-use Rattle.judge.specs.Steps.{incomplete}
 use Rattle.judge.proofs.working.Statement.{statement}
 use Rattle.judge.proofs.working.Tie as tie
 
@@ -15,7 +14,7 @@ on-one c = rw (c .before .on-boundary .ensures) at (c .if2 .left)
 
 complete : (c : tie.Else3)
     → (let args = c .before .before .before .before .before .before .before .args in
-    incomplete (args .row) (args .facts) ≡ false)
+    ltb (args .facts .bytes) (args .row .bytes) ≡ false)
 complete c = le-ltb _ _ (c .if3 .left)
 
 returns : tie.Need-returns
