@@ -67,14 +67,17 @@ read r source d f =
       action = Action.Drive source;
     }
 
--- the control commands
+-- the control commands: what each makes of the record
+abbrev pub changed : Order → Device → Device
+changed Enable d = latched d
+changed Disable d = dropped d
+changed DeepPowerDown d = moved d Deep
+changed UltraDeepPowerDown d = moved d UltraDeep
+changed Resume d = moved d Awake
+changed Reset d = reset d
+
 abbrev pub ordered : Order → Device → Judged
-ordered Enable d = control (latched d)
-ordered Disable d = control (dropped d)
-ordered DeepPowerDown d = control (moved d Deep)
-ordered UltraDeepPowerDown d = control (moved d UltraDeep)
-ordered Resume d = control (moved d Awake)
-ordered Reset d = control (reset d)
+ordered order d = control (changed order d)
 
 abbrev pub eraseKind : Region → Kind
 eraseKind Page = PageErase

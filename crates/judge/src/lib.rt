@@ -169,18 +169,24 @@ fn read(row: Row, source: Source, device: Device, facts: Facts) -> Judged
     }
 }
 
-// The control commands.
+// The control commands: what each makes of the record.
+fn changed(order: Order, device: Device) -> Device
+    ensures { λ r. ⌜ r ≡ judging.changed order device ⌝ }
+{
+    match order {
+        Order::Enable => device.latched(),
+        Order::Disable => device.dropped(),
+        Order::DeepPowerDown => device.moved(Mode::Deep),
+        Order::UltraDeepPowerDown => device.moved(Mode::UltraDeep),
+        Order::Resume => device.moved(Mode::Awake),
+        Order::Reset => device.reset(),
+    }
+}
+
 fn ordered(order: Order, device: Device) -> Judged
     ensures { λ r. ⌜ r ≡ judging.ordered order device ⌝ }
 {
-    match order {
-        Order::Enable => quiet(Outcome::Control, device.latched()),
-        Order::Disable => quiet(Outcome::Control, device.dropped()),
-        Order::DeepPowerDown => quiet(Outcome::Control, device.moved(Mode::Deep)),
-        Order::UltraDeepPowerDown => quiet(Outcome::Control, device.moved(Mode::UltraDeep)),
-        Order::Resume => quiet(Outcome::Control, device.moved(Mode::Awake)),
-        Order::Reset => quiet(Outcome::Control, device.reset()),
-    }
+    quiet(Outcome::Control, changed(order, device))
 }
 
 // The duration that an erase of the region takes.
