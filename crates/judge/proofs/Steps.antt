@@ -114,14 +114,16 @@ module _ (d : Device) (s : Settings) (f : Facts) where
             (barred (Work.Erase region) d f))
         by Work.Otp e n =
             rw (ap awake m, few, heard, e, n .0, n .1, n .3)
-            (works _ _ refl (bar Work.Otp) refl refl (d .wel) (onBoundary f) (ltb (f .bytes) (row .bytes)) (barred Work.Otp d f))
+            (works _ _ refl (bar Work.Otp) refl refl (d .wel) (onBoundary f) (ltb (f .bytes) (row .bytes))
+            (barred Work.Otp d f))
         by Work.WriteStatus e n =
             rw (ap awake m, few, heard, e, n .0, n .1, n .3)
             (works _ _ refl (bar Work.WriteStatus) refl refl (d .wel) (onBoundary f) (ltb (f .bytes) (row .bytes))
             (barred Work.WriteStatus d f))
         by Work.WriteStatusTwo e n =
             rw (ap awake m, few, heard, e, n .0, n .1, n .3)
-            (works _ _ refl (bar Work.WriteStatus) refl refl (d .wel) (onBoundary f) (ltb (f .bytes) (row .bytes)) false)
+            (works _ _ refl (bar Work.WriteStatus) refl refl (d .wel) (onBoundary f) (ltb (f .bytes) (row .bytes))
+            false)
 
     of-command : (command : Command) → row .command ≡ command → listed ≡ byOpcode command row d s f
     of-command Unlisted e = of-unlisted e

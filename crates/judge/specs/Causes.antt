@@ -58,8 +58,8 @@ onBoundary f = eqb (f .bits % 8) 0
 abbrev pub confirmed : Device → Facts → Bool
 confirmed d f = d .rste && (eqb (f .second) 0xD0 && leb 16 (f .bits))
 
--- when each cause holds: by the row of the opcode, the record and the frame. What a part in deep power-down answers, ABh,
--- is of no use to one that is awake.
+-- when each cause holds: by the row of the opcode, the record and the frame. What a part in deep power-down answers,
+-- ABh, is of no use to one that is awake.
 abbrev pub holds : Cause → Row → Device → Facts → Bool
 holds None r d f = false
 holds TooFewBits r d f = ltb (f .bits) 8
