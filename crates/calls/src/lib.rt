@@ -1,5 +1,7 @@
 // What a call is handed, and why it is refused: the bytes of a frame, the signals beside them, and how long the lent memories are. What a
 // caller can break is refused and not required. It sees no byte of the lent memories.
+#![tactic(auto)]
+
 ghost use Rattle.std.specs.Prelude.{◌≡◌, get_or};
 ghost use Rattle.calls.specs.Address.{address_of};
 ghost use Rattle.calls.specs.Refusal.{bytes_for, refusal_of};

@@ -1,5 +1,7 @@
 // What happens to the bytes of a lent memory: a range is set, a memory is copied out with wrap at its end. It knows slices and numbers,
 // and nothing of flash. Each contract gives every byte afterwards as a function of its place and its old value.
+#![tactic(auto)]
+
 pub mod copy;
 pub mod range;
 

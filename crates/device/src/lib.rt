@@ -1,5 +1,7 @@
 // The device record, handed on by value: each method hands back the record as it then stands. And the status bytes, which show it. It knows
 // no opcode, no frame and no memory.
+#![tactic(auto)]
+
 pub mod status;
 
 ghost use Rattle.std.specs.Prelude.{cond, ◌≡◌};

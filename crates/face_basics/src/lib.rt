@@ -1,5 +1,7 @@
 // The face without a frame, for callers that have only numbers and slices: the version, a fresh record, the typical settings, the status
 // bytes and a look. Words that stand for nothing, such as a flag that is neither 0 nor 1, are answered with 255, and then nothing changes.
+#![tactic(auto)]
+
 ghost use Rattle.std.specs.Prelude.{◌≡◌, length};
 ghost use Rattle.face_words.specs.Words.{is_settings, number_if, written_if};
 ghost use Rattle.face_basics.specs.Face as face;

@@ -1,4 +1,6 @@
 // A frame for callers that have only numbers and memories: words that stand for nothing are answered with 255, and then nothing changes.
+#![tactic(auto)]
+
 ghost use Rattle.std.specs.Prelude.{true, ◌≡◌, length};
 ghost use Rattle.part.specs.Frame as spec;
 ghost use Rattle.part.specs.Frame.{lent, reply_of};

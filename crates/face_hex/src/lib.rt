@@ -1,5 +1,7 @@
 // Intel HEX for callers that have only numbers and memories: one word is lent for the answer. Any other number of words is answered with
 // 255, and then nothing changes.
+#![tactic(auto)]
+
 ghost use Rattle.std.specs.Prelude.{◌≡◌};
 ghost use Rattle.face_hex.specs.Words.{spoken, text_out, text_in};
 

@@ -1,5 +1,7 @@
 // Frames through the ledger, and its report, for callers that have only numbers and memories: words that stand for
 // nothing are answered with 255, and then nothing changes.
+#![tactic(auto)]
+
 ghost use Rattle.std.specs.Prelude.{true, ◌≡◌};
 ghost use Rattle.part.specs.Frame.{lent};
 ghost use Rattle.face_words.specs.Words.{written_if};

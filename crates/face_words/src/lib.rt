@@ -1,5 +1,7 @@
 // The words in which record, settings, signals and answer travel to callers that have only numbers and slices. Above, every count of words
 // is one of the constants here.
+#![tactic(auto)]
+
 ghost use Rattle.std.specs.Prelude.{◌&&◌, [], ◌∷◌, ◌≡◌, ◌≤◌, length, get_or};
 ghost use Rattle.part.specs.Words as part;
 ghost use Rattle.face_words.specs.Words.{is_lent, answer_lent, as_lent, word_of, mode_number, mode_of, memory_of};

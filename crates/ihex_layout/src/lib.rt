@@ -1,1 +1,3 @@
 // Intel HEX as it is published: no code, only the layout, for the writer and the reader.
+
+#![tactic(auto)]

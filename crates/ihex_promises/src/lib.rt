@@ -1,1 +1,3 @@
 // What the writer and the reader of Intel HEX promise together. No code.
+
+#![tactic(auto)]

@@ -1,5 +1,7 @@
 // The reader of Intel HEX: text is laid into an array. A first walk over the records judges them all; only then a second one writes.
 // Nothing is required of a caller; what is wrong is refused.
+#![tactic(auto)]
+
 ghost use Rattle.std.specs.Prelude.{true, false, cond, ◌≡◌, ◌+◌, ◌*◌, ◌<◌, ◌≤◌, ltb, length, drop};
 ghost use Rattle.cells.specs.Each.{each};
 ghost use Rattle.refusals.specs.Refusals.{number_of};

@@ -1,5 +1,7 @@
 // The writer of Intel HEX: an array becomes text by the published layout. It knows bytes, characters and the sizes of an array, and nothing
 // of flash. Nothing is required of a caller; what is wrong is refused.
+#![tactic(auto)]
+
 ghost use Rattle.std.specs.Prelude.{[], ◌∷◌, ◌++◌, ◌≡◌, ◌+◌, ◌*◌, ◌%◌, ◌<◌, ◌≤◌, length, take, drop};
 ghost use Rattle.std.proofs.lemmas.List.Edits.{sets};
 ghost use Rattle.ihex_layout.specs.Layout as layout;

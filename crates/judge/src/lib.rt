@@ -1,5 +1,7 @@
 // Judging a frame: from the record at its rise, the settings and the facts of a frame to the record afterwards, the
 // outcome, the driven positions and what is to be done with the memories, whose contents it never sees.
+#![tactic(auto)]
+
 ghost use Rattle.std.specs.Prelude.{◌≡◌};
 ghost use Rattle.judge.specs.Causes as causes;
 ghost use Rattle.judge.specs.Judging as judging;

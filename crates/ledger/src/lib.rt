@@ -1,5 +1,7 @@
 // The tables of the ledger: what each account was billed, and what is booked of one call. It knows the answer of a call
 // and its ticks, and nothing of frames.
+#![tactic(auto)]
+
 ghost use Rattle.std.specs.Prelude.{false, not, ◌||◌, ◌≡◌, suc, ◌+◌, ◌*◌, ◌<◌, ◌≤◌, min, max, eqb, replicate};
 ghost use lib.Text.{eqt};
 ghost use Rattle.refusals.specs.Refusals.{number_of};

@@ -1,5 +1,7 @@
 // One frame for an account: busy ticks are billed to the account whose frame began the operation, whoever polls
 // afterwards. It stands above the part and sees what that promises: refusal, outcome and busy ticks.
+#![tactic(auto)]
+
 ghost use Rattle.std.specs.Prelude.{◌≡◌};
 ghost use Rattle.part.specs.Frame.{call, lent, reply_of};
 ghost use Rattle.ledger.specs.Ledger as spec;

@@ -1,1 +1,3 @@
 // Series of calls through the ledger: definitions and proofs, no code.
+
+#![tactic(auto)]

@@ -1,5 +1,7 @@
 // The lent memories by their lengths: the sizes that an array and a security register may have, and a look at one of
 // them without a frame. The one crate that lists sizes. It sees lengths, never a byte, and nothing of flash or text.
+#![tactic(auto)]
+
 ghost use Rattle.std.specs.Prelude.{true, cond, [], ◌≡◌, ◌%◌, ◌<◌, length};
 ghost use Rattle.memories.specs.Sizes.{is_array, is_register};
 ghost use Rattle.memories.specs.Look.{start_of, view_of, start_in, length_in, behind, looked_at, looked_from};

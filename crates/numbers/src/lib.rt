@@ -1,4 +1,6 @@
 // Functions on numbers. Its proofs have the law of a search through a list, and that of a way back. It knows nothing of a memory.
+#![tactic(auto)]
+
 ghost use Rattle.std.specs.Prelude.{◌≡◌, ◌<◌, min, max};
 
 // The lesser of two numbers.

@@ -1,4 +1,6 @@
 // The opcodes of the AT25XE011: a row of fixed facts for each listed one, kept as a constant table, and looking one up.
+#![tactic(auto)]
+
 ghost use Rattle.std.specs.Prelude.{◌≡◌};
 ghost use Rattle.opcodes.specs.Commands.{command_of};
 ghost use Rattle.opcodes.specs.Rows.{row_of};

@@ -1,4 +1,6 @@
 // The operations of a frame on the array and the register, and lists of them. It stands below the part and requires the right lengths.
+#![tactic(auto)]
+
 ghost use Rattle.std.specs.Prelude.{◌≡◌, ◌<◌, ◌%◌, length};
 ghost use Rattle.cells.specs.Each.{each};
 ghost use Rattle.operations.specs.Operations.{cell_of, width_of, on_array, on_register, range_of};

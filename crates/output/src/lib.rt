@@ -1,4 +1,6 @@
 // What the output positions of a frame read. It stands below the part and requires the right lengths.
+#![tactic(auto)]
+
 ghost use Rattle.std.specs.Prelude.{◌≡◌, ◌+◌, ◌/◌, ◌≤◌, ◌<◌, length};
 ghost use Rattle.cells.specs.Each.{each, stored};
 ghost use Rattle.cells.specs.Range.{range};

@@ -1,5 +1,7 @@
 // Programming a page. Data that is shorter than the page is ANDed in where it aims; other data goes through a page
 // buffer. It knows pages of up to 256 bytes, and nothing of flash.
+#![tactic(auto)]
+
 ghost use Rattle.std.specs.Prelude.{◌≡◌, ◌+◌, ◌≤◌, ◌<◌, length, drop};
 ghost use Rattle.cells.specs.Each.{each};
 ghost use Rattle.pages.specs.Page.{loaded, anded_in, programmed};

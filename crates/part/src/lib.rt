@@ -1,4 +1,6 @@
 // The part itself: a chip-select frame, from its first bit to the rise, on memories that the caller lends.
+#![tactic(auto)]
+
 ghost use Rattle.std.specs.Prelude.{◌≡◌, ◌*◌, ◌≤◌};
 ghost use Rattle.refusals.specs.Refusals.{number_of};
 ghost use Rattle.calls.specs.Refusal.{bytes_for};

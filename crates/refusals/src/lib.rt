@@ -1,5 +1,7 @@
 // Every refusal of the project, and its number in the papers. It says what a refusal is called, not when it is given. A request that brings
 // new ones adds them here.
+#![tactic(auto)]
+
 ghost use Rattle.std.specs.Prelude.{◌≡◌};
 ghost use Rattle.refusals.specs.Refusals.{number_of};
 

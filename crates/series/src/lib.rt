@@ -1,1 +1,3 @@
 // Series of calls: no code, only definitions and theorems over `part`.
+
+#![tactic(auto)]

@@ -1,5 +1,7 @@
 // The built-in session: four frames on a small part whose programs take 2,000 ticks each. A line gives a frame's bytes, what the output
 // reads, and status byte 1 after the call.
+#![tactic(auto)]
+
 ghost use Rattle.std.specs.Prelude.{◌≡◌, ◌≤◌, ◌<◌, length};
 ghost use Rattle.session.specs.Turn.{digit_of, turn_of};
 ghost use Rattle.part.specs.Frame.{lent};

@@ -1,4 +1,6 @@
 // The settings record: eight durations in ticks, one for each kind of operation.
+#![tactic(auto)]
+
 ghost use Rattle.std.specs.Prelude.{◌≡◌, ◌<◌};
 ghost use Rattle.settings.specs.Settings.{place_of, duration_of, any_unfair, typical};
 

@@ -1,5 +1,7 @@
 // What a run of calls knows of the ledger's tables: a number that no word of them is above. As long as it is not above
 // the limit, no word is, and the tables need not be read again. It knows nothing of frames.
+#![tactic(auto)]
+
 ghost use Rattle.std.specs.Prelude.{◌≡◌};
 ghost use Rattle.watch.specs.Watch as spec;
 
