@@ -14,7 +14,7 @@ use settings::Settings;
 
 // How many bits are clocked, whether WP is high from the first to the last of them, how many ticks came between the last call and this one,
 // and how many each byte position takes, whole or not.
-#[derive(Drop)]
+#[derive(Clone, Copy)]
 pub struct Signals {
     pub bits: u64,
     pub wp: bool,
@@ -23,7 +23,7 @@ pub struct Signals {
 }
 
 // How long the lent array, the lent register, the input and the lent output buffer are.
-#[derive(Drop)]
+#[derive(Clone, Copy)]
 pub struct Lengths {
     pub array: usize,
     pub register: usize,

@@ -10,7 +10,7 @@ ghost use Rattle.device.specs.Device.{fresh, awake, deep, ultra_deep, is_busy, u
 use settings::LONGEST;
 
 // Awake, in deep power-down or in ultra-deep power-down.
-#[derive(Drop)]
+#[derive(Clone, Copy)]
 pub enum Mode {
     Awake,
     Deep,
@@ -53,7 +53,7 @@ impl Mode {
 }
 
 // The bits BPL, BP0, WEL and RSTE, the OTP-used mark, the mode and the busy ticks left.
-#[derive(Drop)]
+#[derive(Clone, Copy)]
 pub struct Device {
     pub bpl: bool,
     pub bp0: bool,

@@ -31,14 +31,14 @@ use refusals::Refusal;
 
 // The refusal, if there is one, and the place of the character at which the faulty record begins: for text after the end record the first
 // character there, for a missing end record the end of the text.
-#[derive(Drop)]
+#[derive(Clone, Copy)]
 pub struct Reading {
     pub refusal: Refusal,
     pub place: usize,
 }
 
 // What is found of a record: whether it is whole, and what its bytes add up to.
-#[derive(Drop)]
+#[derive(Clone, Copy)]
 struct Found {
     whole: bool,
     total: u32,

@@ -12,7 +12,7 @@ use memories::is_array;
 use refusals::Refusal;
 
 // Why nothing was written, or that the text was, and how many characters were.
-#[derive(Drop)]
+#[derive(Clone, Copy)]
 pub struct Written {
     pub refusal: Refusal,
     pub characters: usize,

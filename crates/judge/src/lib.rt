@@ -13,7 +13,7 @@ use settings::{Kind, Settings};
 
 // What is known of a frame without its data: the opcode, the second byte, the address, the number of bytes, the bits
 // clocked, whether WP is high, and whether the part was busy at the frame's first bit.
-#[derive(Drop)]
+#[derive(Clone, Copy)]
 pub struct Facts {
     pub code: u8,
     pub second: u8,
@@ -25,7 +25,7 @@ pub struct Facts {
 }
 
 // Why nothing came of a frame, or why it was aborted, in request R-5's order. A call that is refused has none.
-#[derive(Drop)]
+#[derive(Clone, Copy)]
 pub enum Cause {
     None,
     TooFewBits,
@@ -66,7 +66,7 @@ impl Cause {
 }
 
 // The outcomes, by document 01's words; nothing and aborted with their cause.
-#[derive(Drop)]
+#[derive(Clone, Copy)]
 pub enum Outcome {
     Nothing(Cause),
     Read,
@@ -77,7 +77,7 @@ pub enum Outcome {
 
 // What is to be done with the memories: nothing, drive bytes of a source, program a page, erase a region, program the
 // register.
-#[derive(Drop)]
+#[derive(Clone, Copy)]
 pub enum Action {
     Still,
     Drive(Source),
@@ -88,7 +88,7 @@ pub enum Action {
 
 // The record afterwards, the outcome, the first driven position, the number of driven positions, and what is to be
 // done.
-#[derive(Drop)]
+#[derive(Clone, Copy)]
 pub struct Judged {
     pub device: Device,
     pub outcome: Outcome,

@@ -25,14 +25,14 @@ pub const LIMIT: u64 = 9000000000000000000;
 const LARGEST: u64 = 18446744073709551615;
 
 // Whose operation is running, and what it was billed so far. An account over 255 is nobody.
-#[derive(Drop)]
+#[derive(Clone, Copy)]
 pub struct Running {
     pub account: u64,
     pub billed: u64,
 }
 
 // The report on an account, or why there is none.
-#[derive(Drop)]
+#[derive(Clone, Copy)]
 pub struct Reported {
     pub refusal: Refusal,
     pub total: u64,

@@ -17,14 +17,14 @@ use settings::Settings;
 use watch::{raised, watched};
 
 // What a call through the ledger comes back with.
-#[derive(Drop)]
+#[derive(Clone, Copy)]
 pub struct Booked {
     pub answer: Answer,
     pub running: Running,
 }
 
 // What a call in a run comes back with, beside a bound that no word of the tables is above.
-#[derive(Drop)]
+#[derive(Clone, Copy)]
 pub struct Watched {
     pub booked: Booked,
     pub bound: u64,

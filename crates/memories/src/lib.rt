@@ -7,7 +7,7 @@ ghost use Rattle.memories.specs.Sizes.{is_array, is_register};
 ghost use Rattle.memories.specs.Look.{start_of, view_of, start_in, length_in, behind, looked_at, looked_from};
 
 // Which of the lent memories.
-#[derive(Drop)]
+#[derive(Clone, Copy)]
 pub enum Memory {
     Array,
     Register,

@@ -7,7 +7,7 @@ ghost use Rattle.opcodes.specs.Rows.{row_of};
 
 // Where a read takes the bytes that it drives: the array, the security register, the status bytes, the device's
 // identity, or its legacy identity.
-#[derive(Drop)]
+#[derive(Clone, Copy)]
 pub enum Source {
     Array,
     Register,
@@ -17,7 +17,7 @@ pub enum Source {
 }
 
 // What a control command is to do.
-#[derive(Drop)]
+#[derive(Clone, Copy)]
 pub enum Order {
     Enable,
     Disable,
@@ -28,7 +28,7 @@ pub enum Order {
 }
 
 // What an erase covers: a page of 256 bytes, a small block of 4 KiB, a large block of 32 KiB, or the whole array.
-#[derive(Drop)]
+#[derive(Clone, Copy)]
 pub enum Region {
     Page,
     Small,
@@ -37,7 +37,7 @@ pub enum Region {
 }
 
 // What a command that needs the latch is to change.
-#[derive(Drop)]
+#[derive(Clone, Copy)]
 pub enum Work {
     Program,
     Erase(Region),
@@ -47,7 +47,7 @@ pub enum Work {
 }
 
 // What an opcode does.
-#[derive(Drop)]
+#[derive(Clone, Copy)]
 pub enum Command {
     Unlisted,
     Reads(Source),
@@ -58,7 +58,7 @@ pub enum Command {
 // The fixed facts of an opcode: the fewest bytes that it needs, the first position that a read drives and the most that
 // it drives, whether it needs a byte boundary, whether it needs the latch, whether a busy part answers it, whether a
 // part in deep power-down does, and what it does.
-#[derive(Drop)]
+#[derive(Clone, Copy)]
 pub struct Row {
     pub code: u8,
     pub bytes: u8,

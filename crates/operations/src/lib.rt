@@ -14,7 +14,7 @@ use opcodes::Region;
 use pages::program_page;
 
 // The places of the array from `from` up to, not including, `to`.
-#[derive(Drop)]
+#[derive(Clone, Copy)]
 pub struct Range {
     pub from: usize,
     pub to: usize,

@@ -16,7 +16,7 @@ use settings::Settings;
 
 // Why the call was refused, its outcome with its cause, the first driven position, how many are driven, the range of
 // the array that it covered, and the record as it then stands.
-#[derive(Drop)]
+#[derive(Clone, Copy)]
 pub struct Answer {
     pub refusal: Refusal,
     pub outcome: Outcome,

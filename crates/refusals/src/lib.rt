@@ -6,7 +6,7 @@ ghost use Rattle.std.specs.Prelude.{◌≡◌};
 ghost use Rattle.refusals.specs.Refusals.{number_of};
 
 // Why a call, a report or a text is refused, or that it is not.
-#[derive(Drop)]
+#[derive(Clone, Copy)]
 pub enum Refusal {
     // it is not refused
     Accepted,

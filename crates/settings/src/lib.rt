@@ -8,7 +8,7 @@ ghost use Rattle.settings.specs.Settings.{place_of, duration_of, any_unfair, typ
 pub const LONGEST: u64 = 60000000;
 
 // The kinds of operation that take time.
-#[derive(Drop)]
+#[derive(Clone, Copy)]
 pub enum Kind {
     ByteProgram,
     LongerProgram,
@@ -38,7 +38,7 @@ impl Kind {
     }
 }
 
-#[derive(Drop)]
+#[derive(Clone, Copy)]
 pub struct Settings {
     pub ticks: [u64; 8],
 }
