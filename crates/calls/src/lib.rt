@@ -65,6 +65,7 @@ pub fn bytes_for(bits: u64) -> u64
 }
 
 // Why a call is refused, by the first in the papers' order that applies.
+#[tactic(auto, unfolding(crate::specs::Refusal::refusal_of))]
 pub fn refusal_of(device: Device, settings: Settings, signals: Signals, lengths: Lengths) -> Refusal
     ensures { result ≡ refusal_of device settings signals lengths }
 {
