@@ -78,6 +78,7 @@ fn erase(array: &mut [u8], region: Region, input: &[u8]) -> Range
 }
 
 // What is to be done with the memories is done. The answer is the range of the array that it lies in.
+#[tactic(auto, using(cells::proofs::Places::each_same))]
 pub fn carry_out(action: Action, array: &mut [u8], register: &mut [u8], input: &[u8]) -> Range
     requires { (0 < length array.old) × (length array.old % 65536 ≡ 0) × (length register.old ≡ 128) }
     ensures value { result ≡ range_of (on_array action (length array.old) input.now) }
