@@ -6,7 +6,7 @@ use mathlib.Core.Path.{◌≡◌, sym, subst, ◌∙◌}
 use native.Mathlib.Decide.{ℕ_discrete, dec_le}
 use native.Mathlib.Nat.{not-suc-le-zero, le_refl, le_trans, le_of_eq, add-le-add, add-le-add_iff_right}
 use native.Mathlib.Omega.{arith}
-use borrow.Author.Tests.{lt-ltb}
+use borrow.Author.Tests.{lt-ltb, le-ltb}
 use lib.Bits.{bit_or, or_add_and, and_le_r, or_comm}
 use lib.Dec.{ltb}
 use lib.ListN.{get_or}
@@ -36,3 +36,14 @@ or_left a b = (add-le-add_iff_right b).0 (le_trans (le_of_eq (sym (or_add_and a 
 
 pub or_right : (a b : ℕ) → b ≤ bit_or a b
 or_right a b = subst (λ (x : ℕ). b ≤ x) (or_comm b a) (or_left b a)
+
+-- none of the first i words is above the limit, unless all their bits are
+abbrev pub Low : ℕ → ℕ → List ℕ → Type 0
+Low i all table = all ≤ limit → above_before i table ≡ false
+
+-- one word more
+pub low_next : (i all : ℕ) (table : List ℕ) → Low i all table → Low (suc i) (bit_or all (get_or table i 0)) table
+unfolding above_before
+low_next i all table low l =
+    let word = get_or table i 0 in
+    rw (le-ltb limit word (le_trans (or_right all word) l)) (low (le_trans (or_left all word) l))
