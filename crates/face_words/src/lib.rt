@@ -149,6 +149,7 @@ pub fn is_record(words: &[u64]) -> bool
         & (word(words, 5) < 3)
 }
 
+#[tactic(auto, unfolding(crate::specs::Words::device_of))]
 pub fn device_of(words: &[u64]) -> Device
     ensures { result ≡ device_of words.now }
 {
@@ -170,6 +171,7 @@ pub fn is_settings(words: &[u64]) -> bool
     is_lent(SETTINGS, SETTINGS, words.len())
 }
 
+#[tactic(auto, unfolding(crate::specs::Words::settings_of))]
 pub fn settings_of(words: &[u64]) -> Settings
     ensures { result ≡ settings_of words.now }
 {
