@@ -140,3 +140,11 @@ pub one_answer : (c : Call) (m n o : Lent) (account : ℕ) (l k j : Ledger) (a b
 one_answer c m n o account l k j a b p q =
     let e = p ∙ sym q in
     (answers.same_reply a.answer b.answer (ap (λ (r : through.Result). r.reply) e), ap (λ (r : through.Result). r.lent) e, ap (λ (r : through.Result). r.ledger) e)
+
+-- and of any call that met its contract, by what it left
+pub kept_bounded : (bound known after : ℕ) (c : Call) (m n : Lent) (account : ℕ) (l kept : Ledger) (r : Reply) → Bounded bound l
+    → known ≡ watched bound l.totals l.numbers → after ≡ raised known → Meets c m account l r n kept → Bounded after kept
+kept_bounded bound known after c m n account l kept r low e f met =
+    rw (f ∙ ap raised e)
+    (subst (λ (k : Ledger). Bounded (raised (watched bound l.totals l.numbers)) k) (sym (ap (λ (x : through.Result). x.ledger) met))
+    (stays_bounded bound c m account l low))
