@@ -13,7 +13,7 @@ use Rattle.settings.specs.Settings.{any_unfair}
 use Rattle.device.specs.declared.Device.{Device}
 use Rattle.device.specs.Device.{unsound}
 use Rattle.memories.specs.Sizes.{is_array}
-use Rattle.memories.proofs.Long.{register-long}
+use Rattle.memories.proofs.Long.{register_long}
 use Rattle.calls.specs.declared.Lengths.{Lengths}
 use Rattle.calls.specs.declared.Signals.{Signals}
 use Rattle.calls.specs.Refusal.{bytes_for, refusal_of}
@@ -47,7 +47,7 @@ accepted d s signals lengths e =
     let eight = passed _ Pace _ (λ z. omega arith) seven.1 in
     record {
       array = not-false _ one.0;
-      register = register-long lengths.register (not-false _ two.0);
+      register = register_long lengths.register (not-false _ two.0);
       short = ltb-false _ _ three.0;
       fits = eqb-true _ _ (not-false _ four.0);
       room = ltb-false _ _ five.0;

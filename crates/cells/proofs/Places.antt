@@ -43,8 +43,8 @@ pub each_same : (xs : List ℕ) → xs ≡ each (λ k x. x) xs
 each_same xs = is_each (λ k x. x) xs xs refl (λ k l. refl)
 
 -- two functions that agree at every place and its byte do the same
-pub each-alike : (f g : Cell) (xs : List ℕ) → ((k : ℕ) → k < length xs → f k (get_or xs k 0) ≡ g k (get_or xs k 0)) → each f xs ≡ each g xs
-each-alike f g xs h = is_each g xs (each f xs) (length-each f xs) (λ k l. get_or-each f xs k 0 l ∙ h k l)
+pub each_alike : (f g : Cell) (xs : List ℕ) → ((k : ℕ) → k < length xs → f k (get_or xs k 0) ≡ g k (get_or xs k 0)) → each f xs ≡ each g xs
+each_alike f g xs h = is_each g xs (each f xs) (length-each f xs) (λ k l. get_or-each f xs k 0 l ∙ h k l)
 
 -- one after the other is one function, if it does at every place what the two do
 pub each_then : (f g h : Cell) (xs : List ℕ) → ((k : ℕ) → k < length xs → f k (g k (get_or xs k 0)) ≡ h k (get_or xs k 0)) → each f (each g xs) ≡ each h xs
@@ -75,8 +75,8 @@ unfolding over
 over_out covers f k x e = rw e
 
 -- functions that agree where they cover, and cover the same, do the same
-pub over-alike : (covers also : ℕ → Bool) (f g : Cell) (k x : ℕ) → covers k ≡ also k → (covers k ≡ true → f k x ≡ g k x) → over covers f k x ≡ over also g k x
-over-alike covers also f g k x e h = by (covers k) refl
+pub over_alike : (covers also : ℕ → Bool) (f g : Cell) (k x : ℕ) → covers k ≡ also k → (covers k ≡ true → f k x ≡ g k x) → over covers f k x ≡ over also g k x
+over_alike covers also f g k x e h = by (covers k) refl
   where
     by : (b : Bool) → covers k ≡ b → over covers f k x ≡ over also g k x
     by true c = over_in covers f k x c ∙ (h c ∙ sym (over_in also g k x (sym e ∙ c)))

@@ -11,7 +11,7 @@ use lib.Dec.{leb, ltb}
 use lib.ListN.{length, get_or, set}
 use Rattle.cells.specs.Each.{Cell, each, over}
 use Rattle.cells.specs.Range.{range}
-use Rattle.cells.proofs.Places.{each-alike, each_then, each_set, is_each, length-each, over_in, over_out, over-alike, untouched}
+use Rattle.cells.proofs.Places.{each_alike, each_then, each_set, is_each, length-each, over_in, over_out, over_alike, untouched}
 
 -- a place of the range, and the three kinds of place: in it, before it, behind it
 pub range_in : (a b k : ℕ) → a ≤ k → k < b → range a b k ≡ true
@@ -20,8 +20,8 @@ range_in a b k p q = rw (le-leb a k p, lt-ltb k b q)
 pub range_before : (a b k : ℕ) → k < a → range a b k ≡ false
 range_before a b k p = rw (lt-leb a k p)
 
-pub range-behind : (a b k : ℕ) → b ≤ k → range a b k ≡ false
-range-behind a b k p = rw (le-ltb k b p) (and-false (leb a k))
+pub range_behind : (a b k : ℕ) → b ≤ k → range a b k ≡ false
+range_behind a b k p = rw (le-ltb k b p) (and-false (leb a k))
 
 -- what a place in the range knows
 pub range_of_lem : (a b k : ℕ) → range a b k ≡ true → (a ≤ k) × (k < b)
@@ -33,7 +33,7 @@ range_none a k = by (dec_lt k a)
   where
     by : Dec (k < a) → range a a k ≡ false
     by (yes l) = range_before a a k l
-    by (no l) = range-behind a a k (omega arith)
+    by (no l) = range_behind a a k (omega arith)
 
 -- one place more makes no difference elsewhere
 pub range_more : (a i k : ℕ) → k ≢ i → range a (i + 1) k ≡ range a i k
@@ -41,7 +41,7 @@ range_more a i k n = by (dec_lt k i)
   where
     by : Dec (k < i) → range a (i + 1) k ≡ range a i k
     by (yes l) = rw (lt-ltb k i l, lt-ltb k (i + 1) (omega arith))
-    by (no l) = let m : i < k = omega arith in range-behind a (i + 1) k (omega arith) ∙ sym (range-behind a i k (omega arith))
+    by (no l) = let m : i < k = omega arith in range_behind a (i + 1) k (omega arith) ∙ sym (range_behind a i k (omega arith))
 
 -- two runs side by side are one run
 pub side_by_side : (f : Cell) (a b e : ℕ) (xs : List ℕ) → a ≤ b → b ≤ e → each (over (range b e) f) (each (over (range a b) f) xs) ≡ each (over (range a e) f) xs
@@ -51,10 +51,10 @@ side_by_side f a b e xs p q =
     by : (k x : ℕ) → Dec (k < b) → over (range b e) f k (over (range a b) f k x) ≡ over (range a e) f k x
     by k x (yes l) =
         over_out (range b e) f k (over (range a b) f k x) (range_before b e k l) ∙
-        over-alike (range a b) (range a e) f f k x (rw (lt-ltb k b l, lt-ltb k e (omega arith))) (λ c. refl)
+        over_alike (range a b) (range a e) f f k x (rw (lt-ltb k b l, lt-ltb k e (omega arith))) (λ c. refl)
     by k x (no l) =
-        ap (over (range b e) f k) (over_out (range a b) f k x (range-behind a b k (omega arith))) ∙
-        over-alike (range b e) (range a e) f f k x (rw (le-leb b k (omega arith), le-leb a k (omega arith))) (λ c. refl)
+        ap (over (range b e) f k) (over_out (range a b) f k x (range_behind a b k (omega arith))) ∙
+        over_alike (range b e) (range a e) f f k x (rw (le-leb b k (omega arith), le-leb a k (omega arith))) (λ c. refl)
 
 -- A loop that gives the places from a up to b their new bytes, one after the other, has reached i: the memory xs has become ys.
 pub record Reached (f : Cell) (a b : ℕ) (xs : List ℕ) (i : ℕ) (ys : List ℕ) : Type 0 where
@@ -79,8 +79,8 @@ module _ {f : Cell} {a b : ℕ} {xs : List ℕ} {i : ℕ} {ys : List ℕ} (r : R
   same_long = ap length r.so_far ∙ length-each (over (range a i) f) xs
 
   -- what it reads at its next place is the old byte
-  pub next-read : (d : ℕ) → get_or ys i d ≡ get_or xs i d
-  next-read d = ap (λ (l : List ℕ). get_or l i d) r.so_far ∙ untouched (range a i) f xs i d (range-behind a i i (omega arith))
+  pub next_read : (d : ℕ) → get_or ys i d ≡ get_or xs i d
+  next_read d = ap (λ (l : List ℕ). get_or l i d) r.so_far ∙ untouched (range a i) f xs i d (range_behind a i i (omega arith))
 
   -- its store there takes it one place on
   pub goes_on : (v : ℕ) → i < b → i < length xs → v ≡ f i (get_or xs i 0) → Reached f a b xs (i + 1) (set ys i v)
@@ -92,7 +92,7 @@ module _ {f : Cell} {a b : ℕ} {xs : List ℕ} {i : ℕ} {ys : List ℕ} (r : R
             ap (λ (l : List ℕ). set l i v) r.so_far ∙
             each_set (over (range a i) f) (over (range a (i + 1)) f) xs i v l
             (e ∙ sym (over_in (range a (i + 1)) f i (get_or xs i 0) (range_in a (i + 1) i r.low (omega arith))))
-            (λ k n. over-alike (range a i) (range a (i + 1)) f f k (get_or xs k 0) (sym (range_more a i k n)) (λ c. refl));
+            (λ k n. over_alike (range a i) (range a (i + 1)) f f k (get_or xs k 0) (sym (range_more a i k n)) (λ c. refl));
       }
 
   -- at the end every place of the range has its new byte
@@ -108,7 +108,7 @@ module _ {f : Cell} {a b : ℕ} {xs : List ℕ} {i : ℕ} {ys : List ℕ} (r : R
         high = q;
         so_far =
             z ∙
-            (each-alike (over (range i e) g) (over (range i e) f) ys
-            (λ k l. over-alike (range i e) (range i e) g f k (get_or ys k 0) refl (λ c. h k (get_or ys k 0) (range_of_lem i e k c).0 (range_of_lem i e k c).1)) ∙
+            (each_alike (over (range i e) g) (over (range i e) f) ys
+            (λ k l. over_alike (range i e) (range i e) g f k (get_or ys k 0) refl (λ c. h k (get_or ys k 0) (range_of_lem i e k c).0 (range_of_lem i e k c).1)) ∙
             (ap (each (over (range i e) f)) r.so_far ∙ side_by_side f a i e xs r.low p));
       }

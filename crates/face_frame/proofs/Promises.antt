@@ -6,10 +6,10 @@ use Rattle.device.specs.declared.Device.{Device}
 use Rattle.part.specs.Frame.{Call, Lent, lengths_of, frame}
 use Rattle.part.proofs.Answers.{refused_leaves, call_never_255}
 use Rattle.face_words.specs.Words.{is_record, device_of, packed, as_lent}
-use Rattle.face_words.proofs.Records.{record-whole, written_back, is_record_lem, same_record}
+use Rattle.face_words.proofs.Records.{record_whole, written_back, is_record_lem, same_record}
 use Rattle.face_frame.specs.Words.{Handed, is_call, call_of, told, unread, faced}
 use Rattle.face_frame.specs.Promises.{Promises}
-use Rattle.face_frame.proofs.Words.{record-read, enough}
+use Rattle.face_frame.proofs.Words.{record_read, enough}
 
 -- the two ways of a call
 read : (h : Handed) (m : Lent) → is_call h ≡ true → faced h m ≡ told h (frame (call_of h) m)
@@ -37,7 +37,7 @@ unchanged h m n = by (is_call h) refl
     by : (b : Bool) → is_call h ≡ b → ((faced h m).device ≡ h.device) × ((faced h m).lent ≡ m)
     by true r =
         let alone = refused_leaves (call_of h) m (λ z. n (ap (λ l. l.number) (read h m r) ∙ z)) in (
-          ap (λ l. l.device) (read h m r) ∙ (ap (λ (d : Device). as_lent h.device (packed d)) alone.0 ∙ written_back h.device (record-read h r)),
+          ap (λ l. l.device) (read h m r) ∙ (ap (λ (d : Device). as_lent h.device (packed d)) alone.0 ∙ written_back h.device (record_read h r)),
           ap (λ l. l.lent) (read h m r) ∙ alone.1,
         )
     by false r = (ap (λ l. l.device) (passed_over h m r), ap (λ l. l.lent) (passed_over h m r))
@@ -46,7 +46,7 @@ unchanged h m n = by (is_call h) refl
 back : (h : Handed) (m : Lent) → is_call h ≡ true → (is_record (faced h m).device ≡ true) × (device_of (faced h m).device ≡ (frame (call_of h) m).reply.device)
 back h m r =
     let d = (frame (call_of h) m).reply.device in
-    let whole : as_lent h.device (packed d) ≡ packed d = record-whole h.device d (enough h r).0 in
+    let whole : as_lent h.device (packed d) ≡ packed d = record_whole h.device d (enough h r).0 in
     rw (read h m r, whole) (is_record_lem d, same_record d)
 
 pub promises : Promises

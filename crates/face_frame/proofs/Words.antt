@@ -20,12 +20,12 @@ tests h right =
     let three = (and-eq-true_iff (is_record h.device && is_settings h.settings) (is_signals h.signals)).0 all.0 in
     ((and-eq-true_iff (is_record h.device) (is_settings h.settings)).0 three.0, all.1)
 
-pub record-read : (h : Handed) → is_call h ≡ true → is_record h.device ≡ true
-record-read h right = (tests h right).0.0
+pub record_read : (h : Handed) → is_call h ≡ true → is_record h.device ≡ true
+record_read h right = (tests h right).0.0
 
 -- enough words are lent for the record and for the answer
 pub enough : (h : Handed) → is_call h ≡ true → (record_lent (length h.device) ≡ true) × (answer_lent (length h.answer) ≡ true)
-enough h right = ((record_right h.device (record-read h right)).long, (tests h right).1)
+enough h right = ((record_right h.device (record_read h right)).long, (tests h right).1)
 
 -- a frame's result, told as words, is the face's
 pub as_told : (h : Handed) (m n : Lent) (d : Device) (s : Settings) (g : Signals) (a : Answer) (number : ℕ) (device answer : List ℕ)

@@ -8,7 +8,7 @@ use native.Mathlib.Omega.{arith}
 use borrow.Author.Tests.{eq-eqb, ne_eqb}
 use lib.Dec.{eqb}
 use lib.ListN.{length, set}
-use Rattle.ihex_promises.proofs.Refused.{refused-output, refused-array}
+use Rattle.ihex_promises.proofs.Refused.{refused_output, refused_array}
 use Rattle.face_hex.specs.Words.{Spoken, spoken, answered, text_out, text_in}
 
 -- a single word, stored
@@ -40,8 +40,8 @@ kept word memory answer h = by (eqb (length word) 1)
 
 pub text_kept : (array text word : List ℕ) → (text_out array text word).number ≢ 0 → (text_out array text word).memory ≡ text
 unfolding text_out
-text_kept array text word = kept word text _ (refused-output array text)
+text_kept array text word = kept word text _ (refused_output array text)
 
-pub array-kept : (text array word : List ℕ) → (text_in text array word).number ≢ 0 → (text_in text array word).memory ≡ array
+pub array_kept : (text array word : List ℕ) → (text_in text array word).number ≢ 0 → (text_in text array word).memory ≡ array
 unfolding text_in
-array-kept text array word = kept word array _ (refused-array text array)
+array_kept text array word = kept word array _ (refused_array text array)

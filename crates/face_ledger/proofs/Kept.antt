@@ -18,9 +18,9 @@ use Rattle.ledger_frame.specs.Frame.{frame}
 use Rattle.ledger_frame.proofs.Frames.{refused_leaves, never_255}
 use Rattle.device.specs.declared.Device.{Device}
 use Rattle.face_words.specs.Words.{is_record, device_of, as_lent, packed, written_if}
-use Rattle.face_words.proofs.Records.{lent-whole, written-whole, record-whole, written_back, is_record_lem, same_record}
+use Rattle.face_words.proofs.Records.{lent_whole, written_whole, record_whole, written_back, is_record_lem, same_record}
 use Rattle.face_frame.specs.Words.{Handed, call_of}
-use Rattle.face_frame.proofs.Words.{record-read, enough}
+use Rattle.face_frame.proofs.Words.{record_read, enough}
 use Rattle.face_ledger.specs.Words.{Ticket, LeftFor, is_running, running_of, running_words, ledger_of, is_call_for, told, unread, faced, is_report, report_number, report_words}
 use Rattle.face_ledger.specs.Words.{Tables, closed_with, closing}
 use Rattle.face_ledger.proofs.Words.{stands}
@@ -33,9 +33,9 @@ passed_over : (h : Handed) (k : Ticket) (m : Lent) → is_call_for h k ≡ false
 unfolding faced
 passed_over h k m e = rw e
 
-pub bill-unread : (h : Handed) (k : Ticket) (m : Lent)
+pub bill_unread : (h : Handed) (k : Ticket) (m : Lent)
     → (is_call_for h k ≡ false → faced h k m ≡ unread h k m) × ((faced h k m).frame.number ≡ 255 → is_call_for h k ≡ false)
-bill-unread h k m = (passed_over h k m, λ e. by (is_call_for h k) refl e)
+bill_unread h k m = (passed_over h k m, λ e. by (is_call_for h k) refl e)
   where
     by : (b : Bool) → is_call_for h k ≡ b → (faced h k m).frame.number ≡ 255 → is_call_for h k ≡ false
     by true r e =
@@ -52,13 +52,13 @@ two_words (a ∷ b ∷ c ∷ ws) e = absurd (omega arith)
 -- and written back they are as they were
 running_back : (ws : List ℕ) → is_running ws ≡ true → as_lent ws (running_words (running_of ws)) ≡ ws
 running_back ws e =
-    let two = lent-whole 2 (length ws) e in
-    written-whole ws (running_words (running_of ws)) (sym two) ∙ two_words ws two
+    let two = lent_whole 2 (length ws) e in
+    written_whole ws (running_words (running_of ws)) (sym two) ∙ two_words ws two
 
-pub bill-kept : (h : Handed) (k : Ticket) (m : Lent) → (faced h k m).frame.number ≢ 0
+pub bill_kept : (h : Handed) (k : Ticket) (m : Lent) → (faced h k m).frame.number ≢ 0
     → ((faced h k m).frame.device ≡ h.device) × ((faced h k m).frame.lent ≡ m) × ((faced h k m).running ≡ k.running) × ((faced h k m).totals ≡ k.totals)
     × ((faced h k m).most ≡ k.most) × ((faced h k m).numbers ≡ k.numbers)
-bill-kept h k m n = by (is_call_for h k) refl
+bill_kept h k m n = by (is_call_for h k) refl
   where
     by : (b : Bool) → is_call_for h k ≡ b
         → ((faced h k m).frame.device ≡ h.device) × ((faced h k m).frame.lent ≡ m) × ((faced h k m).running ≡ k.running) × ((faced h k m).totals ≡ k.totals)
@@ -67,7 +67,7 @@ bill-kept h k m n = by (is_call_for h k) refl
         let right = stands h k r in
         let kept = refused_leaves (call_of h) m k.account (ledger_of k) (λ z. n (ap (λ (l : LeftFor). l.frame.number) (read h k m r) ∙ z)) in
         rw (read h k m r) (
-          ap (λ (d : Device). as_lent h.device (packed d)) kept.0 ∙ written_back h.device (record-read h right.0),
+          ap (λ (d : Device). as_lent h.device (packed d)) kept.0 ∙ written_back h.device (record_read h right.0),
           kept.1,
           ap (λ (l : Ledger). as_lent k.running (running_words l.running)) kept.2 ∙ running_back k.running right.1,
           ap (λ (l : Ledger). l.totals) kept.2,
@@ -85,9 +85,9 @@ bill_back h k m r =
     let result = frame (call_of h) m k.account (ledger_of k) in
     let d = result.reply.device in
     let on = result.ledger.running in
-    let record_all : as_lent h.device (packed d) ≡ packed d = record-whole h.device d (enough h right.0).0 in
+    let record_all : as_lent h.device (packed d) ≡ packed d = record_whole h.device d (enough h right.0).0 in
     let running_all : as_lent k.running (running_words on) ≡ running_words on
-    = written-whole k.running (running_words on) (sym (lent-whole 2 (length k.running) right.1)) in
+    = written_whole k.running (running_words on) (sym (lent_whole 2 (length k.running) right.1)) in
     rw (read h k m r, record_all, running_all) (is_record_lem d, same_record d, refl, refl)
 
 pub close_unread : (running : List ℕ) (now old : Tables)
@@ -106,8 +106,8 @@ close_unread running now old = (left, λ e. by (is_running running) refl e)
     by true r e = absurd (omega (arith, accepted r))
     by false r e = r
 
-pub report-kept : (r : Reported) (line : List ℕ) → report_number r line ≢ 0 → report_words r line ≡ line
-report-kept r line n = by (ℕ_discrete (number_of r.refusal) 0) (is_report (length line)) n
+pub report_kept : (r : Reported) (line : List ℕ) → report_number r line ≢ 0 → report_words r line ≡ line
+report_kept r line n = by (ℕ_discrete (number_of r.refusal) 0) (is_report (length line)) n
   where
     by : Dec (number_of r.refusal ≡ 0) → (b : Bool) → cond b (number_of r.refusal) 255 ≢ 0
         → written_if (eqb (number_of r.refusal) 0 && b) (r.total ∷ r.most ∷ r.number ∷ []) line ≡ line

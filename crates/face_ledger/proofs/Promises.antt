@@ -1,14 +1,14 @@
 -- What a frame through the ledger by words, and the report, promise holds. Assumes nothing.
 use Rattle.face_ledger.specs.Promises.{Promises}
-use Rattle.face_ledger.proofs.Kept.{bill-unread, bill-kept, bill_back, close_unread, report-kept, same_running}
+use Rattle.face_ledger.proofs.Kept.{bill_unread, bill_kept, bill_back, close_unread, report_kept, same_running}
 
 pub promises : Promises
 promises =
     record {
-      bill-unread = bill-unread;
-      bill-kept = bill-kept;
+      bill_unread = bill_unread;
+      bill_kept = bill_kept;
       bill_back = bill_back;
       close_unread = close_unread;
-      report-kept = report-kept;
+      report_kept = report_kept;
       same_running = same_running;
     }

@@ -12,11 +12,11 @@ use Rattle.face_ledger.specs.Words.{ledger_of, is_call_for, unread, faced, repor
 pub record Promises : Type 0 where
   -- a frame through the ledger is answered with 255 exactly if its words stand for nothing, and then everything is as
   -- it was
-  pub bill-unread : (h : Handed) (k : Ticket) (m : Lent)
+  pub bill_unread : (h : Handed) (k : Ticket) (m : Lent)
       → (is_call_for h k ≡ false → faced h k m ≡ unread h k m)
       × ((faced h k m).frame.number ≡ 255 → is_call_for h k ≡ false)
   -- with a number other than 0 it changes neither the record's words nor a lent byte nor a word of the ledger
-  pub bill-kept : (h : Handed) (k : Ticket) (m : Lent) → (faced h k m).frame.number ≢ 0
+  pub bill_kept : (h : Handed) (k : Ticket) (m : Lent) → (faced h k m).frame.number ≢ 0
       → ((faced h k m).frame.device ≡ h.device) × ((faced h k m).frame.lent ≡ m) × ((faced h k m).running ≡ k.running)
       × ((faced h k m).totals ≡ k.totals)
       × ((faced h k m).most ≡ k.most) × ((faced h k m).numbers ≡ k.numbers)
@@ -32,6 +32,6 @@ pub record Promises : Type 0 where
       → (is_running running ≡ false → closing running now old ≡ closed_with 255 running now old)
       × ((closing running now old).number ≡ 255 → is_running running ≡ false)
   -- a report that is refused writes nothing
-  pub report-kept : (r : Reported) (line : List ℕ) → report_number r line ≢ 0 → report_words r line ≡ line
+  pub report_kept : (r : Reported) (line : List ℕ) → report_number r line ≢ 0 → report_words r line ≡ line
   -- the running operation that comes back as words is the one that goes in with them
   pub same_running : (r : Running) → (is_running (running_words r) ≡ true) × (running_of (running_words r) ≡ r)

@@ -33,16 +33,16 @@ spelled_out : (n : ℕ) (ws : List ℕ) → length ws ≡ n → spelled n 0 ws �
 spelled_out n ws e = rw (← e) (all_spelled ws)
 
 -- a list that no caller may lend in part has its words
-pub lent-whole : (all long : ℕ) → is_lent all all long ≡ true → long ≡ all
-lent-whole all long e =
+pub lent_whole : (all long : ℕ) → is_lent all all long ≡ true → long ≡ all
+lent_whole all long e =
     let both = (and-eq-true_iff (leb all long) (leb long all)).0 e in
     let enough : all ≤ long = leb-true all long both.0 in
     let most : long ≤ all = leb-true long all both.1 in
     omega arith
 
 -- what is written over as many words is written whole
-pub written-whole : (lent new : List ℕ) → length new ≡ length lent → as_lent lent new ≡ new
-written-whole lent new e = take_all (length lent) new (omega (arith, e))
+pub written_whole : (lent new : List ℕ) → length new ≡ length lent → as_lent lent new ≡ new
+written_whole lent new e = take_all (length lent) new (omega (arith, e))
 
 -- each word of a record is what its place asks for
 pub record Right (ws : List ℕ) : Type 0 where
@@ -90,28 +90,28 @@ same_words ws e =
     let r = record_right ws e in
     rw
     (flag_back (get_or ws 0 0) r.bpl, flag_back (get_or ws 1 0) r.bp0, flag_back (get_or ws 2 0) r.wel, flag_back (get_or ws 3 0) r.rste, flag_back (get_or ws 4 0) r.used, mode_back (get_or ws 5 0) r.mode)
-    (spelled_out record_words ws (lent-whole record_words (length ws) r.long))
+    (spelled_out record_words ws (lent_whole record_words (length ws) r.long))
 
 -- a record is written whole
-pub record-whole : (lent : List ℕ) (d : Device) → record_lent (length lent) ≡ true → as_lent lent (packed d) ≡ packed d
-record-whole lent d e = written-whole lent (packed d) (sym (lent-whole record_words (length lent) e))
+pub record_whole : (lent : List ℕ) (d : Device) → record_lent (length lent) ≡ true → as_lent lent (packed d) ≡ packed d
+record_whole lent d e = written_whole lent (packed d) (sym (lent_whole record_words (length lent) e))
 
 -- so a record that is written back leaves its words as they are
 pub written_back : (ws : List ℕ) → is_record ws ≡ true → as_lent ws (packed (device_of ws)) ≡ ws
-written_back ws e = let same = same_words ws e in written-whole ws (packed (device_of ws)) (ap length same) ∙ same
+written_back ws e = let same = same_words ws e in written_whole ws (packed (device_of ws)) (ap length same) ∙ same
 
 -- and the eight durations are the eight words
 pub same_durations : (ws : List ℕ) → is_settings ws ≡ true → (settings_of ws).ticks ≡ ws
 unfolding settings_of spelled
-same_durations ws e = spelled_out settings_words ws (lent-whole settings_words (length ws) e)
+same_durations ws e = spelled_out settings_words ws (lent_whole settings_words (length ws) e)
 
 flag_is : (b : Bool) → is_flag (word_of b) ≡ true
 flag_is true = refl
 flag_is false = refl
 
-flag-told : (b : Bool) → flag_of (word_of b) ≡ b
-flag-told true = refl
-flag-told false = refl
+flag_told : (b : Bool) → flag_of (word_of b) ≡ b
+flag_told true = refl
+flag_told false = refl
 
 mode_is : (m : Mode) → is_mode (mode_number m) ≡ true
 mode_is Mode.Awake = refl
@@ -130,4 +130,4 @@ is_record_lem d = rw (mode_is d.mode, flag_is d.used, flag_is d.rste, flag_is d.
 
 pub same_record : (d : Device) → device_of (packed d) ≡ d
 unfolding device_of
-same_record d = rw (mode_told d.mode, flag-told d.used, flag-told d.rste, flag-told d.wel, flag-told d.bp0, flag-told d.bpl)
+same_record d = rw (mode_told d.mode, flag_told d.used, flag_told d.rste, flag_told d.wel, flag_told d.bp0, flag_told d.bpl)

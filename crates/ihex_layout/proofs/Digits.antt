@@ -7,7 +7,7 @@ use native.Mathlib.Nat.{not-suc-le-zero, le_of_suc-le-suc}
 use native.Mathlib.Omega.{arith}
 use borrow.Author.Tests.{lt-ltb, le-ltb}
 use lib.ListN.{length, get_or}
-use Rattle.cells.proofs.Runs.{range_in, range-behind}
+use Rattle.cells.proofs.Runs.{range_in, range_behind}
 use Rattle.ihex_layout.specs.Layout.{digit, digits, sum, checksum, digit_of, byte_at}
 
 -- the digits of bytes and more bytes
@@ -38,22 +38,22 @@ pub checked : (bytes : List ℕ) → sum (bytes ++ checksum bytes ∷ []) % 256 
 checked bytes = omega (arith, sum_more bytes (checksum bytes))
 
 -- a digit that is written is read as what it was
-digit-read : (n : ℕ) → n < 16 → digit_of (digit n) ≡ n
+digit_read : (n : ℕ) → n < 16 → digit_of (digit n) ≡ n
 unfolding digit_of
-digit-read n l = by (dec_lt n 10)
+digit_read n l = by (dec_lt n 10)
   where
     by : Dec (n < 10) → digit_of (digit n) ≡ n
     by (yes d) = rw (lt-ltb n 10 d, range_in 0x30 0x3A (0x30 + n) (omega arith) (omega arith)) (omega arith)
     by (no d) =
         rw
-        (le-ltb n 10 (omega arith), range-behind 0x30 0x3A (0x37 + n) (omega arith), range_in 0x41 0x47 (0x37 + n) (omega arith) (omega arith))
+        (le-ltb n 10 (omega arith), range_behind 0x30 0x3A (0x37 + n) (omega arith), range_in 0x41 0x47 (0x37 + n) (omega arith) (omega arith))
         (omega arith)
 
 -- the digits of bytes, behind one character, are read as these bytes
 pub byte_read : (c : ℕ) (bytes : List ℕ) (k : ℕ) → k < length bytes → get_or bytes k 0 < 256 → byte_at (c ∷ digits bytes) k ≡ get_or bytes k 0
 unfolding byte_at digits
 byte_read c [] k l s = absurd (not-suc-le-zero l)
-byte_read c (b ∷ bytes) zero l s = rw (digit-read (b / 16) (omega arith), digit-read (b % 16) (omega arith)) (omega arith)
+byte_read c (b ∷ bytes) zero l s = rw (digit_read (b / 16) (omega arith), digit_read (b % 16) (omega arith)) (omega arith)
 byte_read c (b ∷ bytes) (suc k) l s =
     let p : 2 * suc k + 1 ≡ suc (suc (2 * k + 1)) = omega arith in
     let q : 2 * suc k + 2 ≡ suc (suc (2 * k + 2)) = omega arith in

@@ -10,20 +10,20 @@ use borrow.Author.Tests.{ne_eqb}
 use lib.Dec.{eqb}
 use lib.ListN.{length, get_or, length-map, get_or-map}
 use Rattle.cells.specs.Range.{range}
-use Rattle.cells.proofs.Runs.{range_in, range_before, range-behind, range_of_lem}
+use Rattle.cells.proofs.Runs.{range_in, range_before, range_behind, range_of_lem}
 use Rattle.memories.specs.Sizes.{is_array}
 use Rattle.ihex_layout.specs.Layout.{colon, line_feed, carriage_return, digit_of, byte_at, sum_of}
 use Rattle.ihex_read.specs.Reader.{headed, behind, lines_in, place_of, pairs, is_whole, fault_of, upper_behind, ended, judged, judged_in, obeyed, carried, reading_of, array_of}
 use Rattle.ihex_promises.specs.Promises.{upper_case, capitals}
 
 -- a small letter and its capital are the same digit, or none
-digit-small : (c : ℕ) → 0x61 ≤ c → c < 0x7B → digit_of (c - 0x20) ≡ digit_of c
+digit_small : (c : ℕ) → 0x61 ≤ c → c < 0x7B → digit_of (c - 0x20) ≡ digit_of c
 unfolding digit_of
-digit-small c p q =
-    rw (range-behind 0x30 0x3A (c - 0x20) (omega arith), range-behind 0x30 0x3A c (omega arith), range-behind 0x41 0x47 c (omega arith))
+digit_small c p q =
+    rw (range_behind 0x30 0x3A (c - 0x20) (omega arith), range_behind 0x30 0x3A c (omega arith), range_behind 0x41 0x47 c (omega arith))
     elim (dec_lt c 0x67) [
       | yes l ↦ rw (range_in 0x41 0x47 (c - 0x20) (omega arith) (omega arith), range_in 0x61 0x67 c p l) (omega arith)
-      | no l ↦ rw (range-behind 0x41 0x47 (c - 0x20) (omega arith), range_before 0x61 0x67 (c - 0x20) (omega arith), range-behind 0x61 0x67 c (omega arith))
+      | no l ↦ rw (range_behind 0x41 0x47 (c - 0x20) (omega arith), range_before 0x61 0x67 (c - 0x20) (omega arith), range_behind 0x61 0x67 c (omega arith))
     ]
 
 -- what is the same of each small letter and its capital is the same of each character of a line and of the line in upper case
@@ -42,7 +42,7 @@ test_case n l = line_case (λ (c : ℕ). eqb c n) (λ c p q. rw (ne_eqb (c - 0x2
 -- nor do the bytes
 byte_case : (line : List ℕ) (k : ℕ) → byte_at (map upper_case line) k ≡ byte_at line k
 unfolding byte_at
-byte_case line k = rw (line_case digit_of digit-small line (2 * k + 1), line_case digit_of digit-small line (2 * k + 2))
+byte_case line k = rw (line_case digit_of digit_small line (2 * k + 1), line_case digit_of digit_small line (2 * k + 2))
 
 -- nor does the test for pairs of digits
 pairs_case : (line : List ℕ) (n : ℕ) → pairs (map upper_case line) n ≡ pairs line n
@@ -108,9 +108,9 @@ same : {A : Type 0} (f : List (List ℕ) → A) → ((lines : List (List ℕ)) �
 same f h text other e = sym (h (lines_in text)) ∙ (ap f e ∙ h (lines_in other))
 
 -- texts that are judged alike are refused alike
-refused-alike : (text other : List ℕ) (size : ℕ) → judged_in text size ≡ judged_in other size → (reading_of text size).refusal ≡ (reading_of other size).refusal
+refused_alike : (text other : List ℕ) (size : ℕ) → judged_in text size ≡ judged_in other size → (reading_of text size).refusal ≡ (reading_of other size).refusal
 unfolding reading_of
-refused-alike text other size j = by (is_array size) refl
+refused_alike text other size j = by (is_array size) refl
   where
     by : (b : Bool) → is_array size ≡ b → (reading_of text size).refusal ≡ (reading_of other size).refusal
     by true e = rw (e, j)
@@ -124,7 +124,7 @@ pub alike : (text other : List ℕ) → capitals text ≡ capitals other → (ar
 unfolding array_of
 alike text other e array =
     let judgement : judged_in text (length array) ≡ judged_in other (length array) = same (judged (length array) 0 0) (judged_case (length array) 0 0) text other e in
-    let refusal : (reading_of text (length array)).refusal ≡ (reading_of other (length array)).refusal = refused-alike text other (length array) judgement in
+    let refusal : (reading_of text (length array)).refusal ≡ (reading_of other (length array)).refusal = refused_alike text other (length array) judgement in
     (refusal, judgement, rw (refusal, same (λ (lines : List (List ℕ)). carried 0 lines array) (λ lines. carried_case 0 lines array) text other e))
 
 -- A text in upper case has its lines in upper case.

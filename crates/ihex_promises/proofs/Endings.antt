@@ -31,20 +31,20 @@ kept c turned lines e = by (eqb c line_feed) (eqb c carriage_return) e
     by false false q = refl
 
 -- so does the first character of a plain line
-first-kept : (c : ℕ) (line text : List ℕ) → plain (c ∷ line) ≡ true → lines_in (c ∷ text) ≡ headed c (lines_in text)
+first_kept : (c : ℕ) (line text : List ℕ) → plain (c ∷ line) ≡ true → lines_in (c ∷ text) ≡ headed c (lines_in text)
 unfolding lines_in
-first-kept c line text p = kept c (eqb (get_or text 0 0) line_feed) (lines_in text) (plain_parts c line p).0
+first_kept c line text p = kept c (eqb (get_or text 0 0) line_feed) (lines_in text) (plain_parts c line p).0
 
 -- a plain line goes on to the ending that follows it
 to_ending : (line rest : List ℕ) (lines : List (List ℕ)) → plain line ≡ true → lines_in rest ≡ [] ∷ lines → lines_in (line ++ rest) ≡ line ∷ lines
 to_ending [] rest lines p e = e
-to_ending (c ∷ line) rest lines p e = first-kept c line (line ++ rest) p ∙ ap (headed c) (to_ending line rest lines (plain_parts c line p).1 e)
+to_ending (c ∷ line) rest lines p e = first_kept c line (line ++ rest) p ∙ ap (headed c) (to_ending line rest lines (plain_parts c line p).1 e)
 
 -- or to the end of the text
 to_end : (c : ℕ) (line : List ℕ) → plain (c ∷ line) ≡ true → lines_in (c ∷ line) ≡ (c ∷ line) ∷ []
 unfolding lines_in
-to_end c [] p = first-kept c [] [] p
-to_end c (d ∷ line) p = first-kept c (d ∷ line) (d ∷ line) p ∙ ap (headed c) (to_end d line (plain_parts c (d ∷ line) p).1)
+to_end c [] p = first_kept c [] [] p
+to_end c (d ∷ line) p = first_kept c (d ∷ line) (d ∷ line) p ∙ ap (headed c) (to_end d line (plain_parts c (d ∷ line) p).1)
 
 -- a line ends with LF or with CR LF, and the last ending may be missing
 pub endings : (line text : List ℕ) → plain line ≡ true

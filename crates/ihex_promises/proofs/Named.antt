@@ -76,13 +76,13 @@ last_wins upper (first ∷ before) after line array k l n e =
     last_wins (upper_behind upper first) before after line (obeyed upper first array) k m n e
 
 -- byte k afterwards is the data byte of the last HEX record that names k
-pub last-record_wins : (text array : List ℕ) (before after : List (List ℕ)) (line : List ℕ) (k : ℕ)
+pub last_record_wins : (text array : List ℕ) (before after : List (List ℕ)) (line : List ℕ) (k : ℕ)
     → k < length array → (reading_of text (length array)).refusal ≡ 0
     → lines_in text ≡ before ++ line ∷ after → names (uppers_after 0 before) line k ≡ true
     → any_names (upper_behind (uppers_after 0 before) line) after k ≡ false
     → get_or (array_of text array) k 0 ≡ data_at line (k - start_of (uppers_after 0 before) line)
 unfolding array_of
-last-record_wins text array before after line k l accepted lines n e =
+last_record_wins text array before after line k l accepted lines n e =
     rw (accepted, lines) (last_wins 0 before after line array k l n e)
 
 -- and as it was if none does

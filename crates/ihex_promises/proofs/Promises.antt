@@ -6,8 +6,8 @@ use Rattle.ihex_promises.proofs.Endings.{endings}
 use Rattle.ihex_promises.proofs.Texts.{behind}
 use Rattle.ihex_promises.proofs.RoundTrip.{round_trip, handed_on}
 use Rattle.ihex_promises.proofs.Case.{alike, same_place}
-use Rattle.ihex_promises.proofs.Refused.{refused-output, refused-array}
-use Rattle.ihex_promises.proofs.Named.{last-record_wins, unnamed_stays}
+use Rattle.ihex_promises.proofs.Refused.{refused_output, refused_array}
+use Rattle.ihex_promises.proofs.Named.{last_record_wins, unnamed_stays}
 
 pub promises : Promises
 promises =
@@ -16,9 +16,9 @@ promises =
       handed_on = handed_on;
       text_length = λ array e. text_length array (array_long _ e).1;
       behind = behind;
-      refused-output = refused-output;
-      refused-array = refused-array;
-      last-record_wins = last-record_wins;
+      refused_output = refused_output;
+      refused_array = refused_array;
+      last_record_wins = last_record_wins;
       unnamed_stays = unnamed_stays;
       alike = alike;
       same_place = same_place;

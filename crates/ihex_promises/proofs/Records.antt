@@ -14,18 +14,18 @@ use Rattle.ihex_read.specs.Reader.{pairs, is_whole}
 use Rattle.ihex_promises.specs.Promises.{Bytes, plain}
 
 -- a digit ends no line
-digit-plain : (n : ℕ) → (eqb (digit n) line_feed || eqb (digit n) carriage_return) ≡ false
-digit-plain n = by (ltb n 10)
+digit_plain : (n : ℕ) → (eqb (digit n) line_feed || eqb (digit n) carriage_return) ≡ false
+digit_plain n = by (ltb n 10)
   where
     by : (b : Bool) → (eqb (cond b (0x30 + n) (0x37 + n)) line_feed || eqb (cond b (0x30 + n) (0x37 + n)) carriage_return) ≡ false
     by true = rw (ne_eqb (0x30 + n) line_feed (omega arith), ne_eqb (0x30 + n) carriage_return (omega arith))
     by false = rw (ne_eqb (0x37 + n) line_feed (omega arith), ne_eqb (0x37 + n) carriage_return (omega arith))
 
 -- nor do the digits of bytes
-digits-plain : (bytes : List ℕ) → plain (digits bytes) ≡ true
+digits_plain : (bytes : List ℕ) → plain (digits bytes) ≡ true
 unfolding digits plain
-digits-plain [] = refl
-digits-plain (b ∷ bytes) = rw (digit-plain (b / 16), digit-plain (b % 16)) (digits-plain bytes)
+digits_plain [] = refl
+digits_plain (b ∷ bytes) = rw (digit_plain (b / 16), digit_plain (b % 16)) (digits_plain bytes)
 
 -- A line of the digits of bytes.
 module _ (bytes : List ℕ) (small : Bytes bytes) where
@@ -33,10 +33,10 @@ module _ (bytes : List ℕ) (small : Bytes bytes) where
   line = colon ∷ digits bytes
 
   -- its first n bytes are pairs of digits
-  pairs-read : (n : ℕ) → n ≤ length bytes → pairs line n ≡ true
+  pairs_read : (n : ℕ) → n ≤ length bytes → pairs line n ≡ true
   unfolding pairs
-  pairs-read zero l = refl
-  pairs-read (suc n) l = rw (pairs-read n (omega arith), byte_read colon bytes n l (small n)) (lt-ltb (get_or bytes n 0) 256 (small n))
+  pairs_read zero l = refl
+  pairs_read (suc n) l = rw (pairs_read n (omega arith), byte_read colon bytes n l (small n)) (lt-ltb (get_or bytes n 0) 256 (small n))
 
   -- and add up as they did
   sum-read : (n : ℕ) → n ≤ length bytes → sum_of line n ≡ sum (take n bytes)
@@ -56,7 +56,7 @@ module _ (bytes : List ℕ) (small : Bytes bytes) where
     unfolding is_whole
     all_there =
         let e : length line ≡ 2 * length bytes + 1 = omega (arith, length_digits bytes) in
-        rw (all_asked, eq-eqb (length line) (2 * length bytes + 1) e) (pairs-read (length bytes) (omega arith))
+        rw (all_asked, eq-eqb (length line) (2 * length bytes + 1) e) (pairs_read (length bytes) (omega arith))
 
     -- and all are added up
     all_summed : sum_of line (asked line) ≡ sum bytes
@@ -87,9 +87,9 @@ length-bytes : (address kind : ℕ) (content : List ℕ) → length (bytes_of ad
 length-bytes address kind content = omega (arith, length-append content (checksum (fields address kind content) ∷ []))
 
 -- a record's line is plain
-pub record-plain : (address kind : ℕ) (content : List ℕ) → plain (record_line address kind content) ≡ true
+pub record_plain : (address kind : ℕ) (content : List ℕ) → plain (record_line address kind content) ≡ true
 unfolding record_line plain
-record-plain address kind content = digits-plain (bytes_of address kind content)
+record_plain address kind content = digits_plain (bytes_of address kind content)
 
 -- A line says a record: it is whole, adds up to 0, and has the record's fields.
 pub record Says (line : List ℕ) (address kind : ℕ) (content : List ℕ) : Type 0 where
@@ -102,21 +102,21 @@ pub record Says (line : List ℕ) (address kind : ℕ) (content : List ℕ) : Ty
 
 module _ (address kind : ℕ) (content : List ℕ) (a : address < 65536) (t : kind < 256) (l : length content < 256) (s : Bytes content) where
   -- the fields of a record are bytes
-  fields-small : Bytes (fields address kind content)
-  fields-small zero = l
-  fields-small (suc zero) = omega arith
-  fields-small (suc (suc zero)) = omega arith
-  fields-small (suc (suc (suc zero))) = t
-  fields-small (suc (suc (suc (suc k)))) = s k
+  fields_small : Bytes (fields address kind content)
+  fields_small zero = l
+  fields_small (suc zero) = omega arith
+  fields_small (suc (suc zero)) = omega arith
+  fields_small (suc (suc (suc zero))) = t
+  fields_small (suc (suc (suc (suc k)))) = s k
 
   -- and so are all its bytes
   all_small : Bytes (bytes_of address kind content)
-  all_small = back (fields address kind content) (checksum (fields address kind content)) fields-small (omega arith)
+  all_small = back (fields address kind content) (checksum (fields address kind content)) fields_small (omega arith)
 
   -- they are read as they were
-  pub record-read : (k : ℕ) → k < length content + 5 → byte_at (record_line address kind content) k ≡ get_or (bytes_of address kind content) k 0
+  pub record_read : (k : ℕ) → k < length content + 5 → byte_at (record_line address kind content) k ≡ get_or (bytes_of address kind content) k 0
   unfolding record_line
-  record-read k i = byte_read colon (bytes_of address kind content) k (omega (arith, length-bytes address kind content)) (all_small k)
+  record_read k i = byte_read colon (bytes_of address kind content) k (omega (arith, length-bytes address kind content)) (all_small k)
 
   -- a record's line says that record
   pub record_says : Says (record_line address kind content) address kind content
@@ -126,11 +126,11 @@ module _ (address kind : ℕ) (content : List ℕ) (a : address < 65536) (t : ki
       record {
         whole = all_there (bytes_of address kind content) all_small told;
         adds_up = rw (all_summed (bytes_of address kind content) all_small told) (checked (fields address kind content));
-        long = record-read 0 (omega arith);
-        there = omega (arith, record-read 1 (omega arith), record-read 2 (omega arith));
-        such = record-read 3 (omega arith);
+        long = record_read 0 (omega arith);
+        there = omega (arith, record_read 1 (omega arith), record_read 2 (omega arith));
+        such = record_read 3 (omega arith);
         bytes =
             λ k i.
             let e : k + 4 ≡ suc (suc (suc (suc k))) = omega arith in
-            record-read (k + 4) (omega arith) ∙ rw e (get_or-append content (checksum (fields address kind content) ∷ []) 0 k i);
+            record_read (k + 4) (omega arith) ∙ rw e (get_or-append content (checksum (fields address kind content) ∷ []) 0 k i);
       }

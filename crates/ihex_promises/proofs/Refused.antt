@@ -9,11 +9,11 @@ use Rattle.ihex_write.specs.Writer.{written_of, output_of}
 use Rattle.ihex_read.specs.Reader.{reading_of, array_of}
 
 -- the writer that refuses leaves the output as it was
-pub refused-output : (array output : List ℕ) → (written_of array (length output)).refusal ≢ 0 → output_of array output ≡ output
+pub refused_output : (array output : List ℕ) → (written_of array (length output)).refusal ≢ 0 → output_of array output ≡ output
 unfolding output_of
-refused-output array output h = rw (ne_eqb (written_of array (length output)).refusal 0 h)
+refused_output array output h = rw (ne_eqb (written_of array (length output)).refusal 0 h)
 
 -- the reader that refuses leaves the array as it was
-pub refused-array : (text array : List ℕ) → (reading_of text (length array)).refusal ≢ 0 → array_of text array ≡ array
+pub refused_array : (text array : List ℕ) → (reading_of text (length array)).refusal ≢ 0 → array_of text array ≡ array
 unfolding array_of
-refused-array text array h = rw (ne_eqb (reading_of text (length array)).refusal 0 h)
+refused_array text array h = rw (ne_eqb (reading_of text (length array)).refusal 0 h)

@@ -12,7 +12,7 @@ use lib.ListN.{length, get_or, take, drop}
 use lib.Seq.{get_or-take, get_or-drop}
 use Rattle.cells.specs.Each.{Cell, each, over}
 use Rattle.cells.specs.Range.{range}
-use Rattle.cells.proofs.Places.{each-alike, is_each, over_in, over-alike}
+use Rattle.cells.proofs.Places.{each_alike, is_each, over_in, over_alike}
 use Rattle.cells.proofs.Runs.{range_in, range_of_lem, side_by_side, begins}
 use Rattle.memories.specs.Sizes.{is_array}
 use Rattle.memories.proofs.Long.{array_long}
@@ -21,7 +21,7 @@ use Rattle.ihex_write.specs.Writer.{upper_line, data_line, end_line, lines_of, t
 use Rattle.ihex_read.specs.Reader.{lines_in, place_of, fault_of, verdict, ended, judged, start_of, laid, obeyed, carried, reading, reading_of, array_of}
 use Rattle.ihex_promises.specs.Promises.{Bytes}
 use Rattle.ihex_promises.proofs.Endings.{Plain, lines_joined}
-use Rattle.ihex_promises.proofs.Records.{Says, record_says, record-plain, front, take-small}
+use Rattle.ihex_promises.proofs.Records.{Says, record_says, record_plain, front, take-small}
 use Rattle.ihex_promises.proofs.Texts.{by_lines, length_16, fits, text_kept}
 
 -- the array's byte at a place
@@ -73,13 +73,13 @@ module _ (array : List ℕ) (upper : ℕ) (line : List ℕ) where
         let here : ℕ → Bool = range at (at + 16) in
         let read : Cell = λ k x. data_at line (k - at) in
         rw (e, sixteen)
-        (each-alike (over here read) (over here (own array)) old
-        (λ k i. over-alike here here read (own array) k (get_or old k 0) refl (λ c. let b = range_of_lem at (at + 16) k c in same_byte k b.0 b.1)))
+        (each_alike (over here read) (over here (own array)) old
+        (λ k i. over_alike here here read (own array) k (get_or old k 0) refl (λ c. let b = range_of_lem at (at + 16) k c in same_byte k b.0 b.1)))
 
     -- a data record gives 16 places the array's bytes
-    data-read : (lines : List (List ℕ)) → at % 65536 + 16 ≤ 65536 → Read array (at + 16) upper lines → Read array at upper (line ∷ lines)
+    data_read : (lines : List (List ℕ)) → at % 65536 + 16 ≤ 65536 → Read array (at + 16) upper lines → Read array at upper (line ∷ lines)
     unfolding judged fault_of carried obeyed
-    data-read lines m r =
+    data_read lines m r =
         let within : ltb 65536 (at % 65536 + 16) ≡ false = le-ltb 65536 (at % 65536 + 16) m in
         let inside : ltb (length array) (upper * 65536 + at % 65536 + 16) ≡ false = le-ltb (length array) (upper * 65536 + at % 65536 + 16) (omega arith) in
         record {
@@ -114,10 +114,10 @@ lines_read array s i =
     (λ at lines l f h upper u.
     let next : ℕ = at / 65536 in
     upper_read array upper (upper_line next) at next (data_line array at ∷ lines) (upper_says next (omega (arith, (array_long (length array) i).2)))
-    (data-read array next (data_line array at) at l refl (data_says array s at l) lines (omega arith) (h next (λ n. omega arith))))
+    (data_read array next (data_line array at) at l refl (data_says array s at l) lines (omega arith) (h next (λ n. omega arith))))
     (λ at lines l f m h upper u.
     let e : upper ≡ at / 65536 = u f in
-    data-read array upper (data_line array at) at l e (data_says array s at l) lines m (h upper (λ n. omega arith)))
+    data_read array upper (data_line array at) at l e (data_says array s at l) lines m (h upper (λ n. omega arith)))
     i 0 (λ n. refl)
 
 -- the lines in an array's text are its lines
@@ -126,9 +126,9 @@ unfolding text_of
 lines_found array i =
     lines_joined (lines_of array)
     (by_lines array (λ at lines. Plain lines)
-    (record-plain _ _ _, tt)
-    (λ at lines l f h. (record-plain _ _ _, (record-plain _ _ _, h)))
-    (λ at lines l f m h. (record-plain _ _ _, h))
+    (record_plain _ _ _, tt)
+    (λ at lines l f h. (record_plain _ _ _, (record_plain _ _ _, h)))
+    (λ at lines l f m h. (record_plain _ _ _, h))
     i)
 
 -- every place given the array's byte, whatever was there, is the array

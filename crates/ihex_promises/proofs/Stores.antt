@@ -14,7 +14,7 @@ use lib.Seq.{sets, get_or-set_same, get_or-set_other}
 use Rattle.cells.specs.Each.{each, stored}
 use Rattle.cells.specs.Range.{range}
 use Rattle.cells.proofs.Places.{is_each, over_in, over_out}
-use Rattle.cells.proofs.Runs.{range_in, range_before, range-behind, side_by_side, begins}
+use Rattle.cells.proofs.Runs.{range_in, range_before, range_behind, side_by_side, begins}
 use Rattle.ihex_layout.specs.Layout.{length_of, kind_of, data_at}
 use Rattle.ihex_read.specs.Reader.{lines_in, start_of, upper_behind, obeyed, carried, reading, reading_of, array_of}
 
@@ -34,7 +34,7 @@ module _ (value : ℕ → ℕ) where
 
       apart : (k : ℕ) → k ≢ i → Dec (k < i) → here k ≡ false
       apart k n (yes l) = range_before i (suc i) k l
-      apart k n (no l) = range-behind i (suc i) k (omega arith)
+      apart k n (no l) = range_behind i (suc i) k (omega arith)
 
       by : (k : ℕ) → k < length xs → Dec (k ≡ i) → get_or (set xs i (value i)) k 0 ≡ stored here value k (get_or xs k 0)
       by k l (yes e) =
@@ -70,17 +70,17 @@ stored_in upper (line ∷ lines) array =
     (cond (eqb (kind_of line) 0) (stored_by (start_of upper line) line array) array)
 
 -- it is what the lines make of the array
-carried-stored : (upper : ℕ) (lines : List (List ℕ)) (array : List ℕ)
+carried_stored : (upper : ℕ) (lines : List (List ℕ)) (array : List ℕ)
     → carried upper lines array ≡ stored_in upper lines array
 unfolding carried obeyed stored_in
-carried-stored upper [] array = refl
-carried-stored upper (line ∷ lines) array =
+carried_stored upper [] array = refl
+carried_stored upper (line ∷ lines) array =
     let start : ℕ = start_of upper line in
     rw (stores (λ k. data_at line (k - start)) (length_of line) start array)
-    (carried-stored (upper_behind upper line) lines (cond (eqb (kind_of line) 0) (stored_by start line array) array))
+    (carried_stored (upper_behind upper line) lines (cond (eqb (kind_of line) 0) (stored_by start line array) array))
 
 -- and what a text makes of it that is accepted
 pub text_stored : (text array : List ℕ) (size : ℕ) → length array ≡ size → reading_of text size ≡ reading 0 0
     → array_of text array ≡ stored_in 0 (lines_in text) array
 unfolding array_of
-text_stored text array size h r = rw (h, r) (carried-stored 0 (lines_in text) array)
+text_stored text array size h r = rw (h, r) (carried_stored 0 (lines_in text) array)

@@ -20,9 +20,9 @@ worked =
     record {
       the_end = refl;
       an_upper_part = refl;
-      sixteen-bytes = refl;
+      sixteen_bytes = refl;
       later_wins = refl;
-      both-endings = refl;
+      both_endings = refl;
       goes_back = (refl, λ array h. text_stored _ array 131072 h refl);
       wins_after_others = (
         refl,
@@ -32,8 +32,8 @@ worked =
             (set_comm (set first 0x10011 0x12) 0x11 0x10011 0x33 0x22 (λ e. omega arith) ∙
             ap (λ (l : List ℕ). set l 0x11 0x33) (set-set first 0x10011 0x12 0x22)),
       );
-      small-last = (refl, λ array h. text_stored _ array 65536 h refl);
-      large-last = (refl, λ array h. text_stored _ array 131072 h refl);
+      small_last = (refl, λ array h. text_stored _ array 65536 h refl);
+      large_last = (refl, λ array h. text_stored _ array 131072 h refl);
       small_no_data = (refl, λ array h. text_stored _ array 65536 h refl);
       large_no_data = (refl, λ array h. text_stored _ array 131072 h refl);
       first_named = refl;
@@ -43,30 +43,30 @@ worked =
       type_04_unnamed = refl;
       last_upper_part = refl;
       named_after = refl;
-      empty-line = refl;
+      empty_line = refl;
       a_blank = refl;
       lone_cr = refl;
       too_short = refl;
       end_with_data = refl;
       short_upper = refl;
       wrong_sum_lem = refl;
-      wrong_sum-first = refl;
+      wrong_sum_first = refl;
       other_type = refl;
       other_type_bare = refl;
       addresses_unjudged = refl;
       past_64_kib = refl;
-      outside-array = refl;
+      outside_array = refl;
       no_data = refl;
       past_the_last = refl;
       upper_part_1 = refl;
       upper_part_2 = refl;
       empty_text = refl;
       no_end = refl;
-      no_end-place = refl;
+      no_end_place = refl;
       text_behind = refl;
-      text_behind-place = refl;
+      text_behind_place = refl;
       nonsense_after = refl;
       nonsense_after_place = refl;
-      size-first = refl;
+      size_first = refl;
       size_before_room = refl;
     }

@@ -40,11 +40,11 @@ pub record Promises : Type 0 where
   pub behind : (array output : List ℕ) (k d : ℕ) → (written_of array (length output)).characters ≤ k
       → get_or (output_of array output) k d ≡ get_or output k d
   -- refused, nothing is written
-  pub refused-output : (array output : List ℕ) → (written_of array (length output)).refusal ≢ 0 → output_of array output
+  pub refused_output : (array output : List ℕ) → (written_of array (length output)).refusal ≢ 0 → output_of array output
       ≡ output
-  pub refused-array : (text array : List ℕ) → (reading_of text (length array)).refusal ≢ 0 → array_of text array ≡ array
+  pub refused_array : (text array : List ℕ) → (reading_of text (length array)).refusal ≢ 0 → array_of text array ≡ array
   -- Byte k afterwards is the data byte of the last HEX record that names k,
-  pub last-record_wins : (text array : List ℕ) (before after : List (List ℕ)) (line : List ℕ) (k : ℕ)
+  pub last_record_wins : (text array : List ℕ) (before after : List (List ℕ)) (line : List ℕ) (k : ℕ)
       → k < length array → (reading_of text (length array)).refusal ≡ 0
       → lines_in text ≡ before ++ line ∷ after → names (uppers_after 0 before) line k ≡ true
       → any_names (upper_behind (uppers_after 0 before) line) after k ≡ false

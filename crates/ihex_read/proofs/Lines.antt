@@ -17,9 +17,9 @@ pub end_none : (text : List ℕ) (at : ℕ) → length text ≤ at → is_end (d
 unfolding is_end
 end_none text at l = rw (drop_of_length-le text l)
 
-pub end-one : (text : List ℕ) (at : ℕ) → length text ≡ suc at → is_end (drop at text) ≡ eqb (get_or text at 0) line_feed
+pub end_one : (text : List ℕ) (at : ℕ) → length text ≡ suc at → is_end (drop at text) ≡ eqb (get_or text at 0) line_feed
 unfolding is_end
-end-one text at l =
+end_one text at l =
     rw (drop-cons text at 0 (omega arith), drop_of_length-le text {i = suc at} (omega arith), and-false (eqb (get_or text at 0) carriage_return))
     (or-false (eqb (get_or text at 0) line_feed))
 
@@ -31,27 +31,27 @@ end_two text at l =
     rw (drop-cons text at 0 l, get_or-drop (suc at) text 0 0, e)
 
 -- where LF comes next the line is over
-over-at-lf : (text : List ℕ) → eqb (get_or text 0 0) line_feed ≡ true → first (lines_in text) ≡ []
+over_at_lf : (text : List ℕ) → eqb (get_or text 0 0) line_feed ≡ true → first (lines_in text) ≡ []
 unfolding lines_in behind
-over-at-lf [] e = refl
-over-at-lf (c ∷ text) e = rw e
+over_at_lf [] e = refl
+over_at_lf (c ∷ text) e = rw e
 
-first-headed : (c : ℕ) (lines : List (List ℕ)) → first (headed c lines) ≡ c ∷ first lines
-first-headed c [] = refl
-first-headed c (line ∷ lines) = refl
+first_headed : (c : ℕ) (lines : List (List ℕ)) → first (headed c lines) ≡ c ∷ first lines
+first_headed c [] = refl
+first_headed c (line ∷ lines) = refl
 
 -- the first line, a character at a time
-pub first-line : (c : ℕ) (text : List ℕ) → first (lines_in (c ∷ text)) ≡ cond (is_end (c ∷ text)) [] (c ∷ first (lines_in text))
+pub first_line : (c : ℕ) (text : List ℕ) → first (lines_in (c ∷ text)) ≡ cond (is_end (c ∷ text)) [] (c ∷ first (lines_in text))
 unfolding lines_in behind is_end
-first-line c text = by (eqb c line_feed) (eqb c carriage_return) (eqb (get_or text 0 0) line_feed) refl refl refl
+first_line c text = by (eqb c line_feed) (eqb c carriage_return) (eqb (get_or text 0 0) line_feed) refl refl refl
   where
     by : (f r t : Bool) → eqb c line_feed ≡ f → eqb c carriage_return ≡ r → eqb (get_or text 0 0) line_feed ≡ t
         → first (cond (eqb c line_feed) ([] ∷ lines_in text) (cond (eqb c carriage_return && eqb (get_or text 0 0) line_feed) (lines_in text) (headed c (lines_in text))))
         ≡ cond (eqb c line_feed || (eqb c carriage_return && eqb (get_or text 0 0) line_feed)) [] (c ∷ first (lines_in text))
     by true r t x y z = rw x
-    by false true true x y z = rw (x, y, z) (over-at-lf text z)
-    by false true false x y z = rw (x, y, z) (first-headed c (lines_in text))
-    by false false t x y z = rw (x, y) (first-headed c (lines_in text))
+    by false true true x y z = rw (x, y, z) (over_at_lf text z)
+    by false true false x y z = rw (x, y, z) (first_headed c (lines_in text))
+    by false false t x y z = rw (x, y) (first_headed c (lines_in text))
 
 lines_cons : (c : ℕ) (text : List ℕ) → lines_in (c ∷ text) ≡ behind c (eqb (get_or text 0 0) line_feed) (lines_in text)
 unfolding lines_in
@@ -62,9 +62,9 @@ place_on : (c : ℕ) (text : List ℕ) → eqb c line_feed ≡ false → place_o
 unfolding place_of
 place_on c text e = rw e
 
-place-lf : (c : ℕ) (text : List ℕ) → eqb c line_feed ≡ true → place_of 1 (c ∷ text) ≡ 1
+place_lf : (c : ℕ) (text : List ℕ) → eqb c line_feed ≡ true → place_of 1 (c ∷ text) ≡ 1
 unfolding place_of
-place-lf c text e = rw e
+place_lf c text e = rw e
 
 -- the lines behind the first are those of what follows
 tail_stays : (c : ℕ) (turned : Bool) (line : List ℕ) (lines : List (List ℕ)) → eqb c line_feed ≡ false
@@ -130,10 +130,10 @@ before_end text at e = by (dec_lt at (length text))
     by (no l) = absurd (true≢false (sym e ∙ rw (get_or-eq_default text 0 {n = at} (omega arith))))
 
 -- The first line is what stands before its end.
-pub first-long : (text : List ℕ) → length (first (lines_in text)) ≤ length text
+pub first_long : (text : List ℕ) → length (first (lines_in text)) ≤ length text
 unfolding lines_in
-first-long [] = omega arith
-first-long (c ∷ text) = rw (first-line c text) (by (is_end (c ∷ text)) (first-long text))
+first_long [] = omega arith
+first_long (c ∷ text) = rw (first_line c text) (by (is_end (c ∷ text)) (first_long text))
   where
     by : (b : Bool) → length (first (lines_in text)) ≤ length text → length (cond b [] (c ∷ first (lines_in text))) ≤ suc (length text)
     by true l = omega arith
@@ -142,12 +142,12 @@ first-long (c ∷ text) = rw (first-line c text) (by (is_end (c ∷ text)) (firs
 pub first_reads : (text : List ℕ) (k : ℕ) → k < length (first (lines_in text)) → get_or (first (lines_in text)) k 0 ≡ get_or text k 0
 unfolding lines_in
 first_reads [] k l = refl
-first_reads (c ∷ text) zero l = rw (first-line c text) (by (is_end (c ∷ text)) (rw (← first-line c text) l))
+first_reads (c ∷ text) zero l = rw (first_line c text) (by (is_end (c ∷ text)) (rw (← first_line c text) l))
   where
     by : (b : Bool) → 0 < length (cond b [] (c ∷ first (lines_in text))) → get_or (cond b [] (c ∷ first (lines_in text))) 0 0 ≡ c
     by true l = absurd (not-suc-le-zero l)
     by false l = refl
-first_reads (c ∷ text) (suc k) l = rw (first-line c text) (by (is_end (c ∷ text)) (rw (← first-line c text) l) (first_reads text k))
+first_reads (c ∷ text) (suc k) l = rw (first_line c text) (by (is_end (c ∷ text)) (rw (← first_line c text) l) (first_reads text k))
   where
     by : (b : Bool) → suc k < length (cond b [] (c ∷ first (lines_in text)))
         → (k < length (first (lines_in text)) → get_or (first (lines_in text)) k 0 ≡ get_or text k 0)
@@ -158,7 +158,7 @@ first_reads (c ∷ text) (suc k) l = rw (first-line c text) (by (is_end (c ∷ t
 pub first_ends : (text : List ℕ) → is_end (drop (length (first (lines_in text))) text) ≡ true
 unfolding lines_in is_end
 first_ends [] = refl
-first_ends (c ∷ text) = rw (first-line c text) (by (is_end (c ∷ text)) refl (first_ends text))
+first_ends (c ∷ text) = rw (first_line c text) (by (is_end (c ∷ text)) refl (first_ends text))
   where
     by : (b : Bool) → is_end (c ∷ text) ≡ b → is_end (drop (length (first (lines_in text))) text) ≡ true
         → is_end (drop (length (cond b [] (c ∷ first (lines_in text)))) (c ∷ text)) ≡ true
@@ -171,17 +171,17 @@ pub first_is : (m : ℕ) (text : List ℕ) → m ≤ length text
     → length (first (lines_in text)) ≡ m
 unfolding lines_in is_end
 first_is zero [] l h e = refl
-first_is zero (c ∷ text) l h e = rw (first-line c text, e)
+first_is zero (c ∷ text) l h e = rw (first_line c text, e)
 first_is (suc m) [] l h e = absurd (not-suc-le-zero l)
 first_is (suc m) (c ∷ text) l h e =
-    rw (first-line c text, (h 0 (omega arith)).0, (h 0 (omega arith)).1)
+    rw (first_line c text, (h 0 (omega arith)).0, (h 0 (omega arith)).1)
     (ap suc (first_is m text (le_of_suc-le-suc l) (λ k p. h (suc k) (omega arith)) e))
 
 -- Where the next line begins: behind the first one and its ending.
-pub place-first : (text : List ℕ) → place_of 1 text ≡ length (first (lines_in text)) + place_of 1 (drop (length (first (lines_in text))) text)
+pub place_first : (text : List ℕ) → place_of 1 text ≡ length (first (lines_in text)) + place_of 1 (drop (length (first (lines_in text))) text)
 unfolding lines_in place_of
-place-first [] = refl
-place-first (c ∷ text) = rw (first-line c text) (by (is_end (c ∷ text)) refl (place-first text))
+place_first [] = refl
+place_first (c ∷ text) = rw (first_line c text) (by (is_end (c ∷ text)) refl (place_first text))
   where
     by : (b : Bool) → is_end (c ∷ text) ≡ b
         → place_of 1 text ≡ length (first (lines_in text)) + place_of 1 (drop (length (first (lines_in text))) text)
@@ -195,7 +195,7 @@ unfolding place_of
 ending_none text at l = rw (drop_of_length-le text l)
 
 pub ending_lf : (text : List ℕ) (at : ℕ) → at < length text → eqb (get_or text at 0) line_feed ≡ true → place_of 1 (drop at text) ≡ 1
-ending_lf text at l e = rw (drop-cons text at 0 l) (place-lf (get_or text at 0) (drop (suc at) text) e)
+ending_lf text at l e = rw (drop-cons text at 0 l) (place_lf (get_or text at 0) (drop (suc at) text) e)
 
 pub ending_cr : (text : List ℕ) (at : ℕ) → at < length text → is_end (drop at text) ≡ true → eqb (get_or text at 0) line_feed ≡ false
     → (place_of 1 (drop at text) ≡ 2) × (at + 2 ≤ length text)
@@ -207,11 +207,11 @@ ending_cr text at l e n =
     (rw (drop-cons text at 0 l) (place_on (get_or text at 0) (drop (suc at) text) n ∙ ap suc (ending_lf text (suc at) m (rw p f))), omega arith)
 
 -- the line behind line k begins where the text from line k on has its next line
-pub place-next : (k : ℕ) (text : List ℕ) → place_of (suc k) text ≡ place_of k text + place_of 1 (drop (place_of k text) text)
+pub place_next : (k : ℕ) (text : List ℕ) → place_of (suc k) text ≡ place_of k text + place_of 1 (drop (place_of k text) text)
 unfolding place_of
-place-next zero text = sym (zero-add (place_of 1 text))
-place-next (suc k) [] = refl
-place-next (suc k) (c ∷ text) = by (eqb c line_feed) refl (place-next k text) (place-next (suc k) text)
+place_next zero text = sym (zero-add (place_of 1 text))
+place_next (suc k) [] = refl
+place_next (suc k) (c ∷ text) = by (eqb c line_feed) refl (place_next k text) (place_next (suc k) text)
   where
     by : (b : Bool) → eqb c line_feed ≡ b → place_of (suc k) text ≡ place_of k text + place_of 1 (drop (place_of k text) text)
         → place_of (suc (suc k)) text ≡ place_of (suc k) text + place_of 1 (drop (place_of (suc k) text) text)
@@ -220,11 +220,11 @@ place-next (suc k) (c ∷ text) = by (eqb c line_feed) refl (place-next k text) 
     by false x e f = rw (x, f) (sym (suc-add _ _))
 
 -- a line begins in the text or at its end, and the next one further on
-pub place-long : (k : ℕ) (text : List ℕ) → place_of k text ≤ length text
+pub place_long : (k : ℕ) (text : List ℕ) → place_of k text ≤ length text
 unfolding place_of
-place-long zero text = omega arith
-place-long (suc k) [] = omega arith
-place-long (suc k) (c ∷ text) = by (eqb c line_feed) (place-long k text) (place-long (suc k) text)
+place_long zero text = omega arith
+place_long (suc k) [] = omega arith
+place_long (suc k) (c ∷ text) = by (eqb c line_feed) (place_long k text) (place_long (suc k) text)
   where
     by : (b : Bool) → place_of k text ≤ length text → place_of (suc k) text ≤ length text
         → suc (cond b (place_of k text) (place_of (suc k) text)) ≤ suc (length text)

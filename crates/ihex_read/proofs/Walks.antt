@@ -12,7 +12,7 @@ use Rattle.cells.specs.Each.{each}
 use Rattle.cells.proofs.Places.{length-each}
 use Rattle.ihex_layout.specs.Layout.{kind_of}
 use Rattle.ihex_read.specs.Reader.{Told, lines_in, line_at, place_of, fault_of, upper_behind, Verdict, verdict, ended, judged, start_of, laid, obeyed, carried, reading, judged_in}
-use Rattle.ihex_read.proofs.Lines.{lines_at_lem, place-long, place-next, place_some}
+use Rattle.ihex_read.proofs.Lines.{lines_at_lem, place_long, place_next, place_some}
 
 -- the walk has come to a line that begins at `at`; what is judged from there on decides
 pub record Walk (text : List ℕ) (size at upper : ℕ) : Type 0 where
@@ -39,13 +39,13 @@ module _ {text : List ℕ} {size at upper : ℕ} (w : Walk text size at upper) w
   next = at + place_of 1 (drop at text)
 
   next_place : place_of (suc w.line) text ≡ next
-  next_place = place-next w.line text ∙ rw w.place
+  next_place = place_next w.line text ∙ rw w.place
 
   pub next_inside : next ≤ length text
-  next_inside = rw next_place at (place-long (suc w.line) text)
+  next_inside = rw next_place at (place_long (suc w.line) text)
 
-  pub next-further : at < length text → at < next
-  next-further l = let s : 0 < place_of 1 (drop at text) = place_some (drop at text) (omega (arith, length-drop at text)) in omega arith
+  pub next_further : at < length text → at < next
+  next_further l = let s : 0 < place_of 1 (drop at text) = place_some (drop at text) (omega (arith, length-drop at text)) in omega arith
 
   -- what is judged from this line on, and behind it
   here : at < length text → judged size upper w.line (line_at text at ∷ lines_in (drop next text)) ≡ judged_in text size
@@ -84,10 +84,10 @@ module _ {text : List ℕ} {size at upper : ℕ} (w : Walk text size at upper) w
           (answers text size 0 0 0 (last l f k ∙ ap (λ (s : List ℕ). ended (suc w.line) (lines_in s)) (drop_of_length-le text {i = next} (omega arith))) refl)
 
   -- so it is the last line of a text that is not refused
-  nothing-behind : at < length text → fault_of size upper (line_at text at) ≡ 0 → kind_of (line_at text at) ≡ 1 → (judged_in text size).refusal ≡ 0
+  nothing_behind : at < length text → fault_of size upper (line_at text at) ≡ 0 → kind_of (line_at text at) ≡ 1 → (judged_in text size).refusal ≡ 0
       → lines_in (drop next text) ≡ []
   unfolding ended
-  nothing-behind l f k e = by (lines_in (drop next text)) (sym (ap (λ (v : Verdict). v.refusal) (last l f k)) ∙ e)
+  nothing_behind l f k e = by (lines_in (drop next text)) (sym (ap (λ (v : Verdict). v.refusal) (last l f k)) ∙ e)
     where
       by : (lines : List (List ℕ)) → (ended (suc w.line) lines).refusal ≡ 0 → lines ≡ []
       by [] x = refl
@@ -130,12 +130,12 @@ module _ {text : List ℕ} {size at upper : ℕ} (w : Walk text size at upper) w
       → carried upper (lines_in (drop at text)) array ≡ array
   unfolding carried obeyed
   carries_no_more array l k e =
-      carries array l ∙ rw (nothing-behind l (faultless l e) k e, ne_eqb (kind_of (line_at text at)) 0 (λ z. let x : ◌≡◌ {A = ℕ} 1 0 = sym k ∙ z in omega arith))
+      carries array l ∙ rw (nothing_behind l (faultless l e) k e, ne_eqb (kind_of (line_at text at)) 0 (λ z. let x : ◌≡◌ {A = ℕ} 1 0 = sym k ∙ z in omega arith))
 
 -- the array stays as long as it is
-pub obeyed-long : (upper : ℕ) (line array : List ℕ) → length (obeyed upper line array) ≡ length array
+pub obeyed_long : (upper : ℕ) (line array : List ℕ) → length (obeyed upper line array) ≡ length array
 unfolding obeyed
-obeyed-long upper line array = by (eqb (kind_of line) 0)
+obeyed_long upper line array = by (eqb (kind_of line) 0)
   where
     by : (b : Bool) → length (cond b (each (laid (start_of upper line) line) array) array) ≡ length array
     by true = length-each (laid (start_of upper line) line) array

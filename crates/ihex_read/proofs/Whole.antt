@@ -12,7 +12,7 @@ use lib.ListN.{length, get_or, drop, length-drop, get_or-eq_default}
 use lib.Seq.{get_or-drop, drop-drop}
 use Rattle.ihex_layout.specs.Layout.{colon, line_feed, carriage_return, digit_of, byte_at, length_of, asked, sum_of}
 use Rattle.ihex_read.specs.Reader.{lines_in, first, line_at, is_end, place_of, pairs, is_whole}
-use Rattle.ihex_read.proofs.Lines.{first-long, first_reads, first_ends, first_is, place-first}
+use Rattle.ihex_read.proofs.Lines.{first_long, first_reads, first_ends, first_is, place_first}
 
 -- a character with this number is no digit
 not_digit : (c n : ℕ) → digit_of n ≡ 256 → digit_of c < 256 → c ≡ n → ⊥
@@ -97,10 +97,10 @@ module _ (text : List ℕ) where
   unfolding byte_at
   byte_line k l = rw (first_reads text (2 * k + 1) (omega arith), first_reads text (2 * k + 2) l)
 
-  pairs-line : (n : ℕ) → 2 * n < length line → pairs line n ≡ pairs text n
+  pairs_line : (n : ℕ) → 2 * n < length line → pairs line n ≡ pairs text n
   unfolding pairs
-  pairs-line zero l = refl
-  pairs-line (suc n) l = rw (pairs-line n (omega arith), byte_line n (omega arith))
+  pairs_line zero l = refl
+  pairs_line (suc n) l = rw (pairs_line n (omega arith), byte_line n (omega arith))
 
   sum-line : (n : ℕ) → 2 * n < length line → sum_of line n ≡ sum_of text n
   unfolding sum_of
@@ -109,7 +109,7 @@ module _ (text : List ℕ) where
 
   -- What the reader looks for from the line's first character on: the colon, the pairs, and an ending behind them.
   record Standing : Type 0 where
-    pub colon-first : get_or text 0 0 ≡ colon
+    pub colon_first : get_or text 0 0 ≡ colon
     pub paired : pairs text (asked text) ≡ true
     pub ends : is_end (drop (2 * asked text + 1) text) ≡ true
 
@@ -120,32 +120,32 @@ module _ (text : List ℕ) where
       (λ k l. by k l (ℕ_discrete k 0)) s.ends
     where
       by : (k : ℕ) → k < 2 * asked text + 1 → Dec (k ≡ 0) → (eqb (get_or text k 0) line_feed ≡ false) × (eqb (get_or text k 0) carriage_return ≡ false)
-      by k l (yes p) = rw (p, s.colon-first) (refl, refl)
+      by k l (yes p) = rw (p, s.colon_first) (refl, refl)
       by k l (no p) = pairs_inner text (asked text) k s.paired (omega arith) l
 
   same_length : 2 < length line → asked line ≡ asked text
   same_length l = ap (λ (n : ℕ). n + 5) (byte_line 0 l)
 
   -- so the line is whole
-  standing-whole : Standing → is_whole line ≡ true
+  standing_whole : Standing → is_whole line ≡ true
   unfolding is_whole
-  standing-whole s =
+  standing_whole s =
       let l : length line ≡ 2 * asked text + 1 = long s in
       let a : asked line ≡ asked text = same_length (omega arith) in
-      rw (first_reads text 0 (omega arith), s.colon-first, a, l, eq-eqb (2 * asked text + 1) (2 * asked text + 1) refl)
-      (pairs-line (asked text) (omega arith) ∙ s.paired)
+      rw (first_reads text 0 (omega arith), s.colon_first, a, l, eq-eqb (2 * asked text + 1) (2 * asked text + 1) refl)
+      (pairs_line (asked text) (omega arith) ∙ s.paired)
 
   -- and a whole line stands in the text
-  whole-standing : is_whole line ≡ true → Standing
+  whole_standing : is_whole line ≡ true → Standing
   unfolding is_whole
-  whole-standing e =
+  whole_standing e =
       let both = (and-eq-true_iff (eqb (get_or line 0 0) colon && eqb (length line) (2 * asked line + 1)) (pairs line (asked line))).0 e in
       let front = (and-eq-true_iff (eqb (get_or line 0 0) colon) (eqb (length line) (2 * asked line + 1))).0 both.0 in
       let l : length line ≡ 2 * asked line + 1 = eqb-true (length line) (2 * asked line + 1) front.1 in
       let a : asked line ≡ asked text = same_length (omega arith) in
       record {
-        colon-first = sym (first_reads text 0 (omega arith)) ∙ eqb-true (get_or line 0 0) colon front.0;
-        paired = rw (a, pairs-line (asked text) (omega arith)) at both.1;
+        colon_first = sym (first_reads text 0 (omega arith)) ∙ eqb-true (get_or line 0 0) colon front.0;
+        paired = rw (a, pairs_line (asked text) (omega arith)) at both.1;
         ends = rw (l, a) at (first_ends text);
       }
 
@@ -154,7 +154,7 @@ module _ (text : List ℕ) where
   not_whole h = by (is_whole line) refl
     where
       by : (b : Bool) → is_whole line ≡ b → b ≡ false
-      by true e = absurd (h (whole-standing e).paired)
+      by true e = absurd (h (whole_standing e).paired)
       by false e = refl
 
   -- so a text that is too short for the length, or a length that is no pair of digits
@@ -171,14 +171,14 @@ module _ (text : List ℕ) where
   whole_test =
       agree (is_whole line) (eqb (get_or text 0 0) colon && pairs text (asked text) && is_end (drop (2 * asked text + 1) text))
       (λ e.
-      let s : Standing = whole-standing e in
-      rw (s.colon-first, s.paired, s.ends))
+      let s : Standing = whole_standing e in
+      rw (s.colon_first, s.paired, s.ends))
       (λ e.
       let both = (and-eq-true_iff (eqb (get_or text 0 0) colon && pairs text (asked text)) (is_end (drop (2 * asked text + 1) text))).0 e in
       let front = (and-eq-true_iff (eqb (get_or text 0 0) colon) (pairs text (asked text))).0 both.0 in
-      standing-whole
+      standing_whole
       (record {
-        colon-first = eqb-true (get_or text 0 0) colon front.0;
+        colon_first = eqb-true (get_or text 0 0) colon front.0;
         paired = front.1;
         ends = both.1;
       }))
@@ -186,25 +186,25 @@ module _ (text : List ℕ) where
   -- What is known where the line is whole.
   module _ (e : is_whole line ≡ true) where
     here : length line ≡ 2 * asked text + 1
-    here = long (whole-standing e)
+    here = long (whole_standing e)
 
     whole_inside : 2 * asked text + 1 ≤ length text
-    whole_inside = let l : length line ≤ length text = first-long text in omega (arith, here)
+    whole_inside = let l : length line ≤ length text = first_long text in omega (arith, here)
 
     whole_byte : (k : ℕ) → k < asked text → byte_at line k ≡ byte_at text k
     whole_byte k l = byte_line k (omega (arith, here))
 
-    whole-small : (k : ℕ) → k < asked text → byte_at text k < 256
-    whole-small k l = pair_of text (asked text) k (whole-standing e).paired l
+    whole_small : (k : ℕ) → k < asked text → byte_at text k < 256
+    whole_small k l = pair_of text (asked text) k (whole_standing e).paired l
 
     whole_sum : sum_of line (asked line) ≡ sum_of text (asked text)
     whole_sum = rw (same_length (omega (arith, here))) (sum-line (asked text) (omega (arith, here)))
 
-    whole-end : is_end (drop (2 * asked text + 1) text) ≡ true
-    whole-end = (whole-standing e).ends
+    whole_end : is_end (drop (2 * asked text + 1) text) ≡ true
+    whole_end = (whole_standing e).ends
 
-    whole-next : place_of 1 text ≡ 2 * asked text + 1 + place_of 1 (drop (2 * asked text + 1) text)
-    whole-next = rw here at (place-first text)
+    whole_next : place_of 1 text ≡ 2 * asked text + 1 + place_of 1 (drop (2 * asked text + 1) text)
+    whole_next = rw here at (place_first text)
 
 -- what stands behind the pairs of the line that begins at a place
 past : (text : List ℕ) (at n : ℕ) → n ≡ length_of (drop at text) → drop (2 * asked (drop at text) + 1) (drop at text) ≡ drop (at + (2 * n + 11)) text
@@ -220,27 +220,27 @@ found text at n w e p q r =
     let there : get_or (drop at text) 0 0 ≡ get_or text at 0 = get_or-drop at text 0 0 ∙ ap (λ (k : ℕ). get_or text k 0) (add-zero at) in
     rw (whole_test (drop at text), there, past text at n p, ← p, ← q, ← r)
 
-pub too_short-at : (text : List ℕ) (at : ℕ) → length text - at < 2 * asked (drop at text) + 1 → is_whole (line_at text at) ≡ false
+pub too_short_at : (text : List ℕ) (at : ℕ) → length text - at < 2 * asked (drop at text) + 1 → is_whole (line_at text at) ≡ false
 unfolding line_at
-too_short-at text at l = too_short (drop at text) (omega (arith, length-drop at text))
+too_short_at text at l = too_short (drop at text) (omega (arith, length-drop at text))
 
-pub no_length-at : (text : List ℕ) (at : ℕ) → ltb (length_of (drop at text)) 256 ≡ false → is_whole (line_at text at) ≡ false
+pub no_length_at : (text : List ℕ) (at : ℕ) → ltb (length_of (drop at text)) 256 ≡ false → is_whole (line_at text at) ≡ false
 unfolding line_at
-no_length-at text at e = no_length (drop at text) e
+no_length_at text at e = no_length (drop at text) e
 
 -- What is known where the line that begins at a place is whole.
 module _ (text : List ℕ) (at : ℕ) (whole : is_whole (line_at text at) ≡ true) where
-  first-whole : is_whole (first (lines_in (drop at text))) ≡ true
+  first_whole : is_whole (first (lines_in (drop at text))) ≡ true
   unfolding line_at
-  first-whole = whole
+  first_whole = whole
 
   -- its pairs lie in the text
   pub whole_room : (k : ℕ) → k < asked (drop at text) → at + 2 * k + 2 < length text
-  whole_room k l = let w : 2 * asked (drop at text) + 1 ≤ length (drop at text) = whole_inside (drop at text) first-whole in omega (arith, length-drop at text)
+  whole_room k l = let w : 2 * asked (drop at text) + 1 ≤ length (drop at text) = whole_inside (drop at text) first_whole in omega (arith, length-drop at text)
 
   -- and are bytes
   pub byte_small : (k : ℕ) → k < asked (drop at text) → byte_at (drop at text) k < 256
-  byte_small k l = whole-small (drop at text) first-whole k l
+  byte_small k l = whole_small (drop at text) first_whole k l
 
   -- which are the line's
   pub same_byte : (k : ℕ) → k < asked (drop at text) → byte_at (line_at text at) k ≡ byte_at (drop at text) k
@@ -264,4 +264,4 @@ module _ (text : List ℕ) (at : ℕ) (whole : is_whole (line_at text at) ≡ tr
       let far : 2 * asked (drop at text) + 1 ≡ 2 * n + 11 = omega arith in
       let rest : drop (2 * asked (drop at text) + 1) (drop at text) ≡ drop (at + (2 * n + 11)) text = past text at n p in
       let l : at + 2 * (length_of (drop at text) + 4) + 2 < length text = whole_room (length_of (drop at text) + 4) (omega arith) in
-      (omega arith, rw rest at (whole-end (drop at text) first-whole), rw (rest, far) at (whole-next (drop at text) first-whole))
+      (omega arith, rw rest at (whole_end (drop at text) first_whole), rw (rest, far) at (whole_next (drop at text) first_whole))

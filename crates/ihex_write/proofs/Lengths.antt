@@ -11,10 +11,10 @@ use Rattle.ihex_write.proofs.Records.{length-line}
 use Rattle.ihex_write.proofs.Rows.{length-first, length_other}
 
 -- lines and more lines, joined
-pub joined-append : (lines more : List (List ℕ)) → joined (lines ++ more) ≡ joined lines ++ joined more
+pub joined_append : (lines more : List (List ℕ)) → joined (lines ++ more) ≡ joined lines ++ joined more
 unfolding joined
-joined-append [] more = refl
-joined-append (line ∷ lines) more = rw (joined-append lines more) (sym (append_assoc line (line_feed ∷ joined lines) (joined more)))
+joined_append [] more = refl
+joined_append (line ∷ lines) more = rw (joined_append lines more) (sym (append_assoc line (line_feed ∷ joined lines) (joined more)))
 
 -- how many times 64 KiB begin before a place
 abbrev begun : ℕ → ℕ
@@ -37,7 +37,7 @@ length_from array at zero a h = omega (arith, length-line 0 1 [])
 length_from array at (suc n) a h =
     omega (
       arith,
-      ap length (joined-append (lines_at array at) (lines_from array (at + 16) n)) ∙ length-append (joined (lines_at array at)) (joined (lines_from array (at + 16) n)),
+      ap length (joined_append (lines_at array at) (lines_from array (at + 16) n)) ∙ length-append (joined (lines_at array at)) (joined (lines_from array (at + 16) n)),
       length-row array at a (omega arith),
       length_from array (at + 16) n (omega arith) (omega arith),
     )

@@ -11,7 +11,6 @@ use Rattle.opcodes.specs.declared.Command.{Command}
 use Rattle.opcodes.specs.declared.Command.TheVariants.{Unlisted, Reads, Orders, Works}
 use Rattle.opcodes.specs.declared.Order.{Order}
 use Rattle.opcodes.specs.declared.Order.TheVariants.{Enable, Disable, DeepPowerDown, UltraDeepPowerDown, Resume, Reset}
-use Rattle.opcodes.specs.declared.Source.{Source}
 use Rattle.opcodes.specs.declared.Work.{Work}
 use Rattle.opcodes.specs.Rows.{row_of}
 use Rattle.opcodes.specs.Rule.{ordered_on_boundary, ordered_while_busy, ordered_bytes}

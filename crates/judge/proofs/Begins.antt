@@ -1,6 +1,6 @@
 -- A frame begins an operation on the array exactly when its opcode is a program or an erase and no cause keeps it from
 -- it, which is exactly when all of `ready` holds. Assumes nothing.
-use mathlib.Core.Bool.{Bool, true, false, true≢false, cond, not, ◌&&◌, and-true, and-false, and-eq-true_iff}
+use mathlib.Core.Bool.{Bool, true, false, true≢false, cond, not, ◌&&◌, and-true, and-false}
 use mathlib.Core.Path.{◌≡◌, refl, sym, ap, ◌∙◌}
 use lib.Dec.{ltb}
 use Rattle.opcodes.specs.declared.Row.{Row}
@@ -30,13 +30,13 @@ use Rattle.judge.proofs.Causes.{up}
 abbrev changes : Judged → Bool
 changes j = changes_array j.action
 
-order-quiet : (order : Order) (d : Device) → changes (ordered order d) ≡ false
-order-quiet Enable d = refl
-order-quiet Disable d = refl
-order-quiet DeepPowerDown d = refl
-order-quiet UltraDeepPowerDown d = refl
-order-quiet Resume d = refl
-order-quiet Reset d = refl
+order_quiet : (order : Order) (d : Device) → changes (ordered order d) ≡ false
+order_quiet Enable d = refl
+order_quiet Disable d = refl
+order_quiet DeepPowerDown d = refl
+order_quiet UltraDeepPowerDown d = refl
+order_quiet Resume d = refl
+order_quiet Reset d = refl
 
 work_when : (work : Work) (d : Device) (s : Settings) (f : Facts) → changes (carried work d s f) ≡ works_on_array work
 work_when Work.Program d s f = refl
@@ -52,7 +52,7 @@ module _ (d : Device) (s : Settings) (f : Facts) where
   obeyed_when : (command : Command) → changes (obeyed command row d s f) ≡ means_array command
   obeyed_when Unlisted = refl
   obeyed_when (Reads source) = refl
-  obeyed_when (Orders order) = order-quiet order d
+  obeyed_when (Orders order) = order_quiet order d
   obeyed_when (Works work) = work_when work d s f
 
   -- by the cause
@@ -155,8 +155,8 @@ module _ (d : Device) (s : Settings) (f : Facts) where
       by Work.WriteStatusTwo w e n = absurd (true≢false (sym w))
 
   -- that is when all of this holds
-  pub no_cause-ready : (is_none (cause_of row d f) && means_array row.command) ≡ ready d f
-  no_cause-ready = by row.command refl
+  pub no_cause_ready : (is_none (cause_of row d f) && means_array row.command) ≡ ready d f
+  no_cause_ready = by row.command refl
     where
       never : (a b c : Bool) → false ≡ (a && (b && (c && false)))
       never a b c = rw (and-false c, and-false b, and-false a)
@@ -181,4 +181,4 @@ module _ (d : Device) (s : Settings) (f : Facts) where
 
   -- A frame begins an operation on the array exactly when all of this holds.
   pub exactly_when : changes_array (judged d s f).action ≡ ready d f
-  exactly_when = no_cause_when ∙ no_cause-ready
+  exactly_when = no_cause_when ∙ no_cause_ready

@@ -1,7 +1,7 @@
 -- The first of the causes that hold: where it is none no cause holds, and otherwise it holds and none before it does.
 -- Assumes nothing.
 use mathlib.Core.Bool.{Bool, true, false, true≢false, cond, not, ◌&&◌, and-eq-true_iff}
-use mathlib.Core.List.{List, [], ◌∷◌, ◌++◌}
+use mathlib.Core.List.{List, [], ◌∷◌}
 use mathlib.Core.Path.{◌≡◌, refl, sym, ap, ◌∙◌}
 use borrow.Author.Tests.{not-true, not-false}
 use Rattle.opcodes.specs.declared.Row.{Row}
@@ -38,7 +38,7 @@ module _ (test : Cause → Bool) where
           → (is_none (first_of test rest) ≡ false → IsFirst test rest (first_of test rest))
           → is_none (cond b cause (first_of test rest)) ≡ false
           → IsFirst test (cause ∷ rest) (cond b cause (first_of test rest))
-      by true t further e = record { earlier = []; later = rest; listed = refl; held = t; none-earlier = tt }
+      by true t further e = record { earlier = []; later = rest; listed = refl; held = t; none_earlier = tt }
       by false t further e =
           let found = further e in
           record {
@@ -46,7 +46,7 @@ module _ (test : Cause → Bool) where
             later = found.later;
             listed = ap (λ (list : List Cause). cause ∷ list) found.listed;
             held = found.held;
-            none-earlier = (t, found.none-earlier);
+            none_earlier = (t, found.none_earlier);
           }
 
 module _ (r : Row) (d : Device) (f : Facts) where

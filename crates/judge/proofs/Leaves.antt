@@ -1,14 +1,12 @@
 -- What holds of each answer that judging can give holds of judging: one law, and its uses. Assumes nothing.
 use Prim.Native.Nat.{◌+◌, ◌≤◌}
 use mathlib.Core.Bool.{Bool, true, false, true≢false, false≢true, cond, not, ◌&&◌, ◌||◌, and-true, and-false}
-use mathlib.Core.Bool.{and-eq-true_iff, beq}
-use mathlib.Core.Logic.{◌≢◌}
-use mathlib.Core.Path.{◌≡◌, refl, sym, ap, subst, ◌∙◌}
+use mathlib.Core.Bool.{and-eq-true_iff}
+use mathlib.Core.Path.{◌≡◌, refl, sym, ap, ◌∙◌}
 use native.Mathlib.Decide.{ℕ_discrete}
 use native.Mathlib.Omega.{arith}
 use borrow.Author.Tests.{ltb-false, eq-eqb, ne_eqb}
 use lib.Dec.{ltb, eqb}
-use Rattle.opcodes.specs.declared.Row.{Row}
 use Rattle.opcodes.specs.declared.Command.{Command}
 use Rattle.opcodes.specs.declared.Command.TheVariants.{Unlisted, Reads, Orders, Works}
 use Rattle.opcodes.specs.declared.Order.{Order}
@@ -25,7 +23,7 @@ use Rattle.device.specs.declared.Mode.TheVariants.{Awake, Deep, UltraDeep}
 use Rattle.settings.specs.declared.Kind.{Kind}
 use Rattle.settings.specs.declared.Settings.{Settings}
 use Rattle.settings.specs.Settings.{longest, place_of, duration_of, any_unfair}
-use Rattle.settings.proofs.Durations.{none-longer}
+use Rattle.settings.proofs.Durations.{none_longer}
 use Rattle.judge.specs.declared.Facts.{Facts}
 use Rattle.judge.specs.declared.Judged.{Judged}
 use Rattle.judge.specs.declared.Cause.{Cause}
@@ -77,9 +75,9 @@ module _ (d : Device) (s : Settings) (f : Facts) (P : Judged → Type 0)
       (of_command r.command refl)
       (λ n. choice (drops cause r) (aborted cause d) (nothing cause d) (λ t. aborting n) (λ t. still n))
 
-  pub each-answer : P (judged d s f)
+  pub each_answer : P (judged d s f)
   unfolding judged
-  each-answer =
+  each_answer =
       let r = row_of f.code in
       let listed = ended (cause_of r d f) r d s f in
       choice (ultra_deep d.mode) (control (woken d)) (cond (wakes r d f) (ordered Resume d) listed) waking
@@ -105,7 +103,7 @@ module _ (d : Device) (s : Settings) (f : Facts) (P : Judged → Type 0)
 
   pub each_kind : P (judged d s f)
   each_kind =
-      each-answer d s f P (λ n. quietly (Outcome.Nothing cause) d) (λ n. quietly (Outcome.Aborted cause) (dropped d))
+      each_answer d s f P (λ n. quietly (Outcome.Nothing cause) d) (λ n. quietly (Outcome.Aborted cause) (dropped d))
       (λ u. quietly Outcome.Control (woken d)) (λ e. quietly Outcome.Control (moved d Awake)) reading
       (λ order e h. of_order order) (λ work e h. carrying work e)
 
@@ -159,7 +157,7 @@ begun_by_work : (d : Device) (s : Settings) (f : Facts) (P : Judged → Type 0)
     → P (carried work d s f))
     → is_begun (judged d s f).outcome ≡ true → P (judged d s f)
 begun_by_work d s f P of_work =
-    each-answer d s f (IfBegun P) (λ n. none) (λ n. none) (λ m. none) (λ m. none) (λ source e. none)
+    each_answer d s f (IfBegun P) (λ n. none) (λ n. none) (λ m. none) (λ m. none) (λ source e. none)
     (λ order e h. of_order order) (λ work e h. of_work work e)
   where
     none : {A : Type 0} → false ≡ true → A
@@ -191,9 +189,9 @@ begun_acts d s f e m = begun_by_work d s f (λ (j : Judged). changes_array j.act
     of_work Work.WriteStatusTwo c b = no_array Work.WriteStatusTwo c refl
 
 -- and it takes its full duration, however many ticks the frame itself took.
-pub full-duration : (d : Device) (s : Settings) (f : Facts) → (judged d s f).outcome ≡ Outcome.Begun
+pub full_duration : (d : Device) (s : Settings) (f : Facts) → (judged d s f).outcome ≡ Outcome.Begun
     → (judged d s f).device.busy ≡ lasts (row_of f.code).command s f
-full-duration d s f e =
+full_duration d s f e =
     begun_by_work d s f (λ (j : Judged). j.device.busy ≡ lasts (row_of f.code).command s f) of_work (ap is_begun e)
   where
     of_work : (work : Work) → (row_of f.code).command ≡ Works work → is_begun (carried work d s f).outcome ≡ true
@@ -224,7 +222,7 @@ found_idle d f b h = sym (and-true f.busy) ∙ rw b at h.answers
 pub stays_sound : (d : Device) (s : Settings) (f : Facts) → unsound d ≡ false → any_unfair s.ticks ≡ false → (f.busy ≡ false → is_busy d ≡ false)
     → unsound (judged d s f).device ≡ false
 stays_sound d s f u fair still =
-    each-answer d s f (λ (j : Judged). unsound j.device ≡ false) (λ n. u) (λ n. u) (λ m. awoken) (λ m. awoken)
+    each_answer d s f (λ (j : Judged). unsound j.device ≡ false) (λ n. u) (λ n. u) (λ m. awoken) (λ m. awoken)
     (λ source e. u) of_order (λ work e h. of_work work h.up)
   where
     awoken : unsound (moved d Awake) ≡ false
@@ -247,7 +245,7 @@ stays_sound d s f u fair still =
     of_order Reset e h = refl
 
     begins : (kind : Kind) → awake d.mode ≡ true → (ltb longest (duration_of s kind) || (ltb 0 (duration_of s kind) && not (awake d.mode))) ≡ false
-    begins kind w = rw (none-longer s.ticks (place_of kind) fair, w) (and-false (ltb 0 (duration_of s kind)))
+    begins kind w = rw (none_longer s.ticks (place_of kind) fair, w) (and-false (ltb 0 (duration_of s kind)))
 
     of_work : (work : Work) → awake d.mode ≡ true → unsound (carried work d s f).device ≡ false
     of_work Work.Program w = begins (program_kind f) w

@@ -1,6 +1,6 @@
 -- The steps that the code goes are judging by the list. Assumes nothing.
 use mathlib.Core.Bool.{Bool, true, false, cond, not, ◌&&◌}
-use mathlib.Core.Path.{◌≡◌, refl, sym, ap, ◌∙◌}
+use mathlib.Core.Path.{◌≡◌, refl, ap}
 use lib.Dec.{ltb}
 use Rattle.opcodes.specs.declared.Row.{Row}
 use Rattle.opcodes.specs.declared.Command.{Command}
@@ -131,9 +131,9 @@ module _ (d : Device) (s : Settings) (f : Facts) where
     of_command (Orders order) e = of_order order e
     of_command (Works work) e = of_work work e
 
-  short-frame : ltb f.bits 8 ≡ true → listed ≡ nothing TooFewBits d
+  short_frame : ltb f.bits 8 ≡ true → listed ≡ nothing TooFewBits d
   unfolding ended cause_of
-  short-frame few = rw few
+  short_frame few = rw few
 
   asleep : awake d.mode ≡ false → ltb f.bits 8 ≡ false → listed ≡ nothing Asleep d
   unfolding ended cause_of
@@ -161,7 +161,7 @@ module _ (d : Device) (s : Settings) (f : Facts) where
           → cond (ultra_deep d.mode) (control (woken d)) (cond (wakes row d f) (ordered Resume d) listed)
           ≡ stepped d s f
       by UltraDeep m few t = rw (ap ultra_deep m)
-      by Deep m true t = rw (ap ultra_deep m, ap deep m, t) (short-frame t)
+      by Deep m true t = rw (ap ultra_deep m, ap deep m, t) (short_frame t)
       by Deep m false t = rw (ap ultra_deep m, ap deep m, t) (sleeps (ap awake m) t (row.asleep && on_boundary f))
-      by Awake m true t = rw (ap ultra_deep m, ap deep m, t) (short-frame t)
+      by Awake m true t = rw (ap ultra_deep m, ap deep m, t) (short_frame t)
       by Awake m false t = rw (ap ultra_deep m, ap deep m, t) (hears m t (f.busy && not row.busy) refl)

@@ -95,7 +95,7 @@ pub record IsFirst (test : Cause → Bool) (list : List Cause) (cause : Cause) :
   pub later : List Cause
   pub listed : list ≡ earlier ++ (cause ∷ later)
   pub held : test cause ≡ true
-  pub none-earlier : NoneOf test earlier
+  pub none_earlier : NoneOf test earlier
 
 -- a frame with this cause is aborted and drops WEL, which its command needed and had
 abbrev pub drops : Cause → Row → Bool

@@ -132,7 +132,7 @@ fn charge(running: Running, ticks: u64, totals: &mut [u64; 256], most: &mut [u64
     requires { (spec.any_above totals.old ≡ false) × (ticks ≤ 60000000) }
     ensures value { result ≡ spec.paid running ticks }
     ensures totals_after { totals.new ≡ spec.at running.account (λ total. total + ticks) totals.old }
-    ensures most_value { most.exit.now ≡ spec.at running.account (λ most. max most (spec.paid running ticks).billed) most.entry.now }
+    ensures most_value { most.new ≡ spec.at running.account (λ longest. max longest (spec.paid running ticks).billed) most.old }
 {
     if ACCOUNTS <= running.account {
         return running;

@@ -44,10 +44,10 @@ short c m n a e z =
     (sound_then c.device (accepted c.device c.settings c.signals (lengths_of c m) number).sound).short
 
 -- shut: the call is refused, and all is as it was
-pub shut-frame : (c : Call) (m : Lent) (account : ℕ) (l : Ledger) (r : Reply) → shut account l ≡ true
+pub shut_frame : (c : Call) (m : Lent) (account : ℕ) (l : Ledger) (r : Reply) → shut account l ≡ true
     → r ≡ turned_away 9 c m → Meets c m account l r m l
 unfolding frame replied booked part.frame part.replied
-shut-frame c m account l r e p = by (ℕ_discrete (number_for c (lengths_of c m)) 0)
+shut_frame c m account l r e p = by (ℕ_discrete (number_for c (lengths_of c m)) 0)
   where
     by : Dec (number_for c (lengths_of c m) ≡ 0) → Meets c m account l r m l
     by (yes z) = rw (p, e, z)
@@ -100,7 +100,7 @@ short_so c m account l = by (shut_out c (lengths_of c m) account l)
 shut_leaves : (c : Call) (m : Lent) (account : ℕ) (l : Ledger) → shut account l ≡ true → (frame c m account l).ledger ≡ l
 unfolding frame
 shut_leaves c m account l e =
-    ap (λ (r : through.Result). r.ledger) (sym (shut-frame c m account l (turned_away 9 c m) e refl))
+    ap (λ (r : through.Result). r.ledger) (sym (shut_frame c m account l (turned_away 9 c m) e refl))
 
 -- in a run: a bound that was watched says whether the ledger is shut,
 pub shut_so : (bound account : ℕ) (l : Ledger) → Bounded bound l

@@ -20,35 +20,35 @@ use Rattle.ledger_series.proofs.Most.{most}
 use Rattle.ledger_series.proofs.Together.{together}
 
 -- tables of zeros have an entry for each account
-whole-zeros : (r : Running) → Whole (ledger (replicate 256 0) (replicate 256 0) (replicate 256 0) r)
-whole-zeros r = let long = length-replicate {A = ℕ} 256 0 in record { totals = long; most = long; numbers = long }
+whole_zeros : (r : Running) → Whole (ledger (replicate 256 0) (replicate 256 0) (replicate 256 0) r)
+whole_zeros r = let long = length-replicate {A = ℕ} 256 0 in record { totals = long; most = long; numbers = long }
 
-whole-empty : Whole empty
-whole-empty = whole-zeros nobody
+whole_empty : Whole empty
+whole_empty = whole_zeros nobody
 
 pub right_empty : (busy : ℕ) → Right empty busy
-right_empty busy = record { whole = whole-empty; fair = λ own. absurd (omega arith) }
+right_empty busy = record { whole = whole_empty; fair = λ own. absurd (omega arith) }
 
 zeros : (account : ℕ) → account < 256 → get_or (replicate {A = ℕ} 256 0) account 0 ≡ 0
 zeros account low = get_or-replicate 256 account 0 0 low
 
 pub right_closed : (l : Ledger) (busy : ℕ) → busy ≤ 60000000 → Right (closed l) busy
 right_closed l busy short =
-    record { whole = whole-zeros (runs l.running.account 0); fair = λ own. (omega arith, omega arith) }
+    record { whole = whole_zeros (runs l.running.account 0); fair = λ own. (omega arith, omega arith) }
 
 -- a bill of 0 is none
 no_bill : (b : Bool) (n : ℕ) → max 0 (cond b (0 + n) 0) ≡ cond b n 0
 no_bill true n = omega arith
 no_bill false n = refl
 
-pub from-closed : (es : List Entry) (d : Device) (l : Ledger) (account : ℕ) → account < 256 → d.busy ≤ 60000000
+pub from_closed : (es : List Entry) (d : Device) (l : Ledger) (account : ℕ) → account < 256 → d.busy ≤ 60000000
     → let cs = calls es d (closed l) in
     (get_or (last_ledger es d (closed l)).totals account 0
     ≡ rest account l.running d.busy (passed cs) + sum (bills account (operations cs)))
     × (get_or (last_ledger es d (closed l)).most account 0
     ≡ max (rest account l.running d.busy (passed cs)) (largest (bills account (operations cs))))
     × (get_or (last_ledger es d (closed l)).numbers account 0 ≡ length (bills account (operations cs)))
-from-closed es d l account low short = (
+from_closed es d l account low short = (
   total account es d (closed l) low (right_closed l d.busy short).whole ∙ rw (zeros account low) (omega arith),
   most account es d (closed l) low (right_closed l d.busy short) ∙
       rw (
@@ -68,14 +68,14 @@ pub from_empty : (es : List Entry) (d : Device) (account : ℕ) → account < 25
     (get_or (last_ledger es d empty).totals account 0 ≡ sum bs) × (get_or (last_ledger es d empty).most account 0 ≡ largest bs)
     × (get_or (last_ledger es d empty).numbers account 0 ≡ length bs)
 from_empty es d account low = (
-  total account es d empty low whole-empty ∙ rw (zeros account low, nobodys-account) (omega arith),
-  most account es d empty low (right_empty d.busy) ∙ rw (zeros account low, nobodys-account) (omega arith),
-  number account es d empty low whole-empty ∙ rw (zeros account low) (omega arith),
+  total account es d empty low whole_empty ∙ rw (zeros account low, nobodys_account) (omega arith),
+  most account es d empty low (right_empty d.busy) ∙ rw (zeros account low, nobodys_account) (omega arith),
+  number account es d empty low whole_empty ∙ rw (zeros account low) (omega arith),
 )
   where
-    nobodys-account : eqb 256 account ≡ false
-    nobodys-account = ne_eqb 256 account (λ q. omega arith)
+    nobodys_account : eqb 256 account ≡ false
+    nobodys_account = ne_eqb 256 account (λ q. omega arith)
 
 pub all_together : (es : List Entry) (d : Device)
     → sum (last_ledger es d empty).totals + min d.busy (passed (calls es d empty)) ≡ busy_ticks (calls es d empty)
-all_together es d = together es d empty whole-empty ∙ rw (sum_zeros 256) (omega arith)
+all_together es d = together es d empty whole_empty ∙ rw (sum_zeros 256) (omega arith)

@@ -13,7 +13,7 @@ use Rattle.part.specs.Frame as part
 use Rattle.part.specs.Frame.{Call, number_for, refused}
 use Rattle.part.proofs.Answers.{refusal_is}
 use Rattle.series.specs.Turns.{call_of, lengths_of}
-use Rattle.series.proofs.Turns.{refused-reply}
+use Rattle.series.proofs.Turns.{refused_reply}
 use Rattle.ledger.specs.Ledger.{Ledger, shut, booked}
 use Rattle.ledger_frame.specs.Frame.{shut_out, replied}
 use Rattle.ledger_series.specs.Entries.{Entry, reply_to, ledger_by, done_of, books, next, calls, last_record, last_ledger, turns_through}
@@ -37,23 +37,23 @@ module _ (e : Entry) (d : Device) (l : Ledger) where
       by false t s z = absurd (false≢true (sym t ∙ eq-eqb (number_for c lengths) 0 (sym (refusal_is c lengths) ∙ z)))
 
   -- a refused one hands the record back as it came
-  pub refused-through : (reply_to e d l).refusal ≢ 0 → reply_to e d l ≡ refused (reply_to e d l).refusal d
+  pub refused_through : (reply_to e d l).refusal ≢ 0 → reply_to e d l ≡ refused (reply_to e d l).refusal d
   unfolding replied
-  refused-through n = by (shut_out c lengths e.account l) n
+  refused_through n = by (shut_out c lengths e.account l) n
     where
       by : (b : Bool) → (cond b (refused 9 d) (part.replied c lengths)).refusal ≢ 0
           → cond b (refused 9 d) (part.replied c lengths) ≡ refused (cond b (refused 9 d) (part.replied c lengths)).refusal d
       by true n = refl
-      by false n = refused-reply e.turn d n
+      by false n = refused_reply e.turn d n
 
   -- and the ledger stays
-  pub refused-ledger : (reply_to e d l).refusal ≢ 0 → ledger_by e d l ≡ l
+  pub refused_ledger : (reply_to e d l).refusal ≢ 0 → ledger_by e d l ≡ l
   unfolding booked
-  refused-ledger n = rw (ne_eqb (reply_to e d l).refusal 0 n)
+  refused_ledger n = rw (ne_eqb (reply_to e d l).refusal 0 n)
 
   -- so all stands as it stood
   pub refused_stays : (reply_to e d l).refusal ≢ 0 → next e (books d l) ≡ books d l
-  refused_stays n = rw (refused-ledger n) (ap (λ (r : part.Reply). books r.device l) (refused-through n))
+  refused_stays n = rw (refused_ledger n) (ap (λ (r : part.Reply). books r.device l) (refused_through n))
 
 -- at most one thing, before others
 at_most_one : {A : Type 0} (out : Bool) (x : A) (xs : List A) → cond out [] (x ∷ []) ++ xs ≡ cond out xs (x ∷ xs)

@@ -28,11 +28,11 @@ whole_billed c l busy numbers running w long =
       numbers = long;
     }
 
-pub whole-step : (c : Done) (l l' : Ledger) (busy busy' : ℕ) → Whole l → Stepped c l l' busy busy' → Whole l'
-whole-step c l l' busy busy' w (Stepped.refusedly acc beg kept same) = subst Whole (sym kept) w
-whole-step c l l' busy busy' w (Stepped.beginning acc beg low idle lasts short after) =
+pub whole_step : (c : Done) (l l' : Ledger) (busy busy' : ℕ) → Whole l → Stepped c l l' busy busy' → Whole l'
+whole_step c l l' busy busy' w (Stepped.refusedly acc beg kept same) = subst Whole (sym kept) w
+whole_step c l l' busy busy' w (Stepped.beginning acc beg low idle lasts short after) =
     subst Whole (sym after) (whole_billed c l busy (at c.account suc l.numbers) (runs c.account 0) w (length_at c.account suc l.numbers ∙ w.numbers))
-whole-step c l l' busy busy' w (Stepped.going acc beg left after) =
+whole_step c l l' busy busy' w (Stepped.going acc beg left after) =
     subst Whole (sym after) (whole_billed c l busy l.numbers (cond (eqb busy' 0) nobody (paid l.running (min busy (ticks c)))) w w.numbers)
 
 -- what comes off now and what may come off later come off together
@@ -40,8 +40,8 @@ pub off_then : (reset : Bool) (busy busy' t p : ℕ) → busy' ≡ cond reset 0 
 off_then true busy busy' t p e = omega arith
 off_then false busy busy' t p e = omega arith
 
-pub paid-account : (r : Running) (off : ℕ) → (paid r off).account ≡ r.account
-paid-account r off = by (is_account r.account)
+pub paid_account : (r : Running) (off : ℕ) → (paid r off).account ≡ r.account
+paid_account r off = by (is_account r.account)
   where
     by : (b : Bool) → (cond b (runs r.account (min (r.billed + off) 0xFFFFFFFFFFFFFFFF)) r).account ≡ r.account
     by true = refl
@@ -65,15 +65,15 @@ most_billed c l busy w fair own =
     entry_at r.account r.account (λ most. max most (paid r (min busy (ticks c))).billed) l.most w.most own ∙
     rw (eq-eqb r.account r.account refl, paid_billed r (min busy (ticks c)) own (let short = (fair own).1 in omega arith))
 
-pub fair-step : (c : Done) (l l' : Ledger) (busy busy' : ℕ) → Whole l → Fair l busy → Stepped c l l' busy busy' → Fair l' busy'
-fair-step c l l' busy busy' w fair (Stepped.refusedly acc beg kept same) = rw (kept, same) fair
-fair-step c l l' busy busy' w fair (Stepped.beginning acc beg low idle lasts short after) = rw after (λ own. (omega arith, omega arith))
-fair-step c l l' busy busy' w fair (Stepped.going acc beg left after) = rw after (by (ℕ_discrete busy' 0))
+pub fair_step : (c : Done) (l l' : Ledger) (busy busy' : ℕ) → Whole l → Fair l busy → Stepped c l l' busy busy' → Fair l' busy'
+fair_step c l l' busy busy' w fair (Stepped.refusedly acc beg kept same) = rw (kept, same) fair
+fair_step c l l' busy busy' w fair (Stepped.beginning acc beg low idle lasts short after) = rw after (λ own. (omega arith, omega arith))
+fair_step c l l' busy busy' w fair (Stepped.going acc beg left after) = rw after (by (ℕ_discrete busy' 0))
   where
     by : Dec (busy' ≡ 0) → Fair (billed c l busy l.numbers (cond (eqb busy' 0) nobody (paid l.running (min busy (ticks c))))) busy'
     by (yes z) = rw (eq-eqb busy' 0 z) (λ own. absurd (omega arith))
     by (no n) =
-        rw (ne_eqb busy' 0 n, paid-account l.running (min busy (ticks c)))
+        rw (ne_eqb busy' 0 n, paid_account l.running (min busy (ticks c)))
         (λ own.
         let short = (fair own).1 in
         rw (most_billed c l busy w fair own, paid_billed l.running (min busy (ticks c)) own (omega arith))
@@ -82,8 +82,8 @@ fair-step c l l' busy busy' w fair (Stepped.going acc beg left after) = rw after
 pub right_step : (c : Done) (l l' : Ledger) (busy busy' : ℕ) → Right l busy → Stepped c l l' busy busy' → Right l' busy'
 right_step c l l' busy busy' r s =
     record {
-      whole = whole-step c l l' busy busy' r.whole s;
-      fair = fair-step c l l' busy busy' r.whole
+      whole = whole_step c l l' busy busy' r.whole s;
+      fair = fair_step c l l' busy busy' r.whole
           r.fair s;
     }
 

@@ -4,7 +4,7 @@ use mathlib.Core.Bool.{Bool, true, false, cond}
 use mathlib.Core.List.{List, [], ◌∷◌, map}
 use mathlib.Core.Path.{◌≡◌, refl, sym, ap, ◌∙◌}
 use Rattle.runs.specs.Run as run
-use Rattle.runs.proofs.Laws.{gathered_mapped, end_seen, gathered_seen, end-alike, gathered-alike, outputs-alike}
+use Rattle.runs.proofs.Laws.{gathered_mapped, end_seen, gathered_seen, end_alike, gathered_alike, outputs_alike}
 use Rattle.runs.proofs.Laws.{as_the_run, can_be_run as run_of}
 use Rattle.calls.specs.declared.Lengths.{Lengths}
 use Rattle.refusals.specs.declared.Refusal.{Refusal}
@@ -51,21 +51,21 @@ module _ (b : Booking) (t : Desk) where
   shut_to lengths = shut_out c lengths b.account t.ledger
 
   -- what comes back is what is computed, and so is the ledger
-  reply-through : (result_of b t).reply ≡ reply_to (entry turn b.account) t.state.device t.ledger
+  reply_through : (result_of b t).reply ≡ reply_to (entry turn b.account) t.state.device t.ledger
   unfolding frame
-  reply-through = ap (λ (lengths : Lengths). replied c lengths b.account t.ledger) (same_lengths b.step t.state)
+  reply_through = ap (λ (lengths : Lengths). replied c lengths b.account t.ledger) (same_lengths b.step t.state)
 
-  ledger-through : (result_of b t).ledger ≡ ledger_by (entry turn b.account) t.state.device t.ledger
+  ledger_through : (result_of b t).ledger ≡ ledger_by (entry turn b.account) t.state.device t.ledger
   unfolding frame
-  ledger-through = ap (λ (r : Reply). booked t.state.device.busy turn.signals r b.account t.ledger) reply-through
+  ledger_through = ap (λ (r : Reply). booked t.state.device.busy turn.signals r b.account t.ledger) reply_through
 
   -- shut out, the memories and the record are as they were; let through, the part left them
-  state-through : (shut : Bool) → shut_to (lengths_of turn) ≡ shut → (left (result_of b t) t).state ≡ cond shut t.state (series.left (series.result_of b.step t.state) t.state)
+  state_through : (shut : Bool) → shut_to (lengths_of turn) ≡ shut → (left (result_of b t) t).state ≡ cond shut t.state (series.left (series.result_of b.step t.state) t.state)
   unfolding frame replied part.frame
-  state-through true e =
+  state_through true e =
       rw (same_lengths b.step t.state, e)
       (rw (returned_same turn.array t.state.array b.step.behind.array, returned_same turn.register t.state.register b.step.behind.register))
-  state-through false e = rw (same_lengths b.step t.state, e)
+  state_through false e = rw (same_lengths b.step t.state, e)
 
   -- an answer that meets the contract of the code
   answer_to : Answer
@@ -82,28 +82,28 @@ module _ (b : Booking) (t : Desk) where
 
   -- it goes on as it is computed
   goes_on : books_of (next b t) ≡ entries.next (entry_of b) (books_of t)
-  goes_on = rw (reply-through, ledger-through)
+  goes_on = rw (reply_through, ledger_through)
 
   -- and the part's memories by the step that is let through, if it is
   state_on : (next b t).state ≡ series.end (let_through b t) t.state
   unfolding run.end
-  state_on = state-through (shut_to (lengths_of turn)) refl ∙ by (shut_to (lengths_of turn))
+  state_on = state_through (shut_to (lengths_of turn)) refl ∙ by (shut_to (lengths_of turn))
     where
       by : (shut : Bool) → cond shut t.state (series.next b.step t.state) ≡ series.end (cond shut [] (b.step ∷ [])) t.state
       by true = refl
       by false = refl
 
   -- a call that is let through is answered by the part, and leaves what the part leaves
-  result-through : (shut : Bool) → shut_to (lengths_of turn) ≡ shut
+  result_through_lem : (shut : Bool) → shut_to (lengths_of turn) ≡ shut
       → cond shut [] (record { reply = (result_of b t).reply; lent = (result_of b t).lent } ∷ [])
       ≡ cond shut [] (series.result_of b.step t.state ∷ [])
   unfolding frame replied part.frame
-  result-through true e = refl
-  result-through false e = rw (same_lengths b.step t.state, e)
+  result_through_lem true e = refl
+  result_through_lem false e = rw (same_lengths b.step t.state, e)
 
   results_on : result_through b t ≡ series.results (let_through b t) t.state
   unfolding run.gathered
-  results_on = result-through (shut_to (lengths_of turn)) refl ∙ by (shut_to (lengths_of turn))
+  results_on = result_through_lem (shut_to (lengths_of turn)) refl ∙ by (shut_to (lengths_of turn))
     where
       by : (shut : Bool) → cond shut [] (series.result_of b.step t.state ∷ [])
           ≡ series.results (cond shut [] (b.step ∷ [])) t.state
@@ -142,13 +142,13 @@ pub as_computed : (bs : List Booking) (t : Desk)
     × ((end bs t).ledger ≡ last_ledger (entries_of bs) t.state.device t.ledger)
     × (series.turns_of (steps_through bs t) ≡ turns_through (entries_of bs) t.state.device t.ledger)
 as_computed bs t =
-    let last = end-alike next entries.next books_of entry_of goes_on bs t in (
-      outputs-alike next entries.next books_of entry_of goes_on reply_in result_of (λ e v. reply_to e v.device v.ledger) reply-through bs t ∙
+    let last = end_alike next entries.next books_of entry_of goes_on bs t in (
+      outputs_alike next entries.next books_of entry_of goes_on reply_in result_of (λ e v. reply_to e v.device v.ledger) reply_through bs t ∙
           sym (gathered_mapped entries.next (λ (c : Done). c.reply) (run.one entries.done_on) (entries_of bs) (books_of t)),
       ap (λ (v : Books). v.device) last,
       ap (λ (v : Books). v.ledger) last,
       gathered_mapped next turn_in let_through bs t ∙
-          gathered-alike next entries.next books_of entry_of goes_on (λ b t. map turn_in (let_through b t)) entries.let_through turns_on bs t,
+          gathered_alike next entries.next books_of entry_of goes_on (λ b t. map turn_in (let_through b t)) entries.let_through turns_on bs t,
     )
 
 pub as_the_code_does : (bs : List Booking) (t u : Desk) (cs : List Made) → Ran bs t cs u → (map made_of cs ≡ results bs t) × (u ≡ end bs t)

@@ -17,12 +17,12 @@ use Rattle.ledger_series.specs.Operations.{stops, ticks, passed, operations, bil
 use Rattle.ledger_series.specs.Ledgers.{Whole, Fair, Right, most_after}
 use Rattle.ledger_series.proofs.Tables.{entry_at}
 use Rattle.ledger_series.proofs.Steps.{Stepped, billed}
-use Rattle.ledger_series.proofs.Folds.{right_step, paid-account, paid_billed, most_billed, off_then, in_the_end}
+use Rattle.ledger_series.proofs.Folds.{right_step, paid_account, paid_billed, most_billed, off_then, in_the_end}
 
-most-begun : (own : Bool) (most bill : ℕ) (bs : List ℕ) → max (max most (cond own (0 + bill) 0)) (largest bs) ≡ max most (largest (cond own (bill ∷ bs) bs))
+most_begun : (own : Bool) (most bill : ℕ) (bs : List ℕ) → max (max most (cond own (0 + bill) 0)) (largest bs) ≡ max most (largest (cond own (bill ∷ bs) bs))
 unfolding largest
-most-begun true most bill bs = omega arith
-most-begun false most bill bs = omega arith
+most_begun true most bill bs = omega arith
+most_begun false most bill bs = omega arith
 
 module _ (account : ℕ) (c : Done) (l : Ledger) (busy : ℕ) (low : account < 256) (w : Whole l) (fair : Fair l busy) where
   abbrev r : Running
@@ -35,8 +35,8 @@ module _ (account : ℕ) (c : Done) (l : Ledger) (busy : ℕ) (low : account < 2
   after = at r.account (λ most. max most (paid r off).billed) l.most
 
   -- an account's most, after what came off was billed
-  most-entry : get_or after account 0 ≡ max (get_or l.most account 0) (cond (eqb r.account account) (r.billed + off) 0)
-  most-entry = by (ℕ_discrete r.account account)
+  most_entry : get_or after account 0 ≡ max (get_or l.most account 0) (cond (eqb r.account account) (r.billed + off) 0)
+  most_entry = by (ℕ_discrete r.account account)
     where
       by : Dec (r.account ≡ account) → get_or after account 0 ≡ max (get_or l.most account 0) (cond (eqb r.account account) (r.billed + off) 0)
       by (yes e) =
@@ -48,7 +48,7 @@ module _ (account : ℕ) (c : Done) (l : Ledger) (busy : ℕ) (low : account < 2
   most_going : (busy' p : ℕ) → busy' ≡ cond (stops c) 0 (busy - ticks c)
       → max (get_or after account 0) (let on = cond (eqb busy' 0) nobody (paid r off) in cond (eqb on.account account) (on.billed + min busy' p) 0)
       ≡ max (get_or l.most account 0) (cond (eqb r.account account) (r.billed + min busy (ticks c + cond (stops c) 0 p)) 0)
-  most_going busy' p left = rw most-entry (by (ℕ_discrete r.account account) (ℕ_discrete busy' 0))
+  most_going busy' p left = rw most_entry (by (ℕ_discrete r.account account) (ℕ_discrete busy' 0))
     where
       whole : min busy (ticks c) + min busy' p ≡ min busy (ticks c + cond (stops c) 0 p)
       whole = off_then (stops c) busy busy' (ticks c) p left
@@ -60,9 +60,9 @@ module _ (account : ℕ) (c : Done) (l : Ledger) (busy : ℕ) (low : account < 2
       by (yes e) (yes z) = rw (eq-eqb busy' 0 z, eq-eqb r.account account e, ne_eqb 256 account (λ q. omega arith), ← whole) (omega arith)
       by (yes e) (no n) =
           let short = (fair (omega arith)).1 in
-          rw (ne_eqb busy' 0 n, paid-account r off, eq-eqb r.account account e, paid_billed r off (omega arith) (omega arith), ← whole) (omega arith)
+          rw (ne_eqb busy' 0 n, paid_account r off, eq-eqb r.account account e, paid_billed r off (omega arith) (omega arith), ← whole) (omega arith)
       by (no m) (yes z) = rw (eq-eqb busy' 0 z, ne_eqb r.account account m, ne_eqb 256 account (λ q. omega arith)) (omega arith)
-      by (no m) (no n) = rw (ne_eqb busy' 0 n, paid-account r off, ne_eqb r.account account m) (omega arith)
+      by (no m) (no n) = rw (ne_eqb busy' 0 n, paid_account r off, ne_eqb r.account account m) (omega arith)
 
 most_step : (account : ℕ) (c : Done) (cs : List Done) (l l' : Ledger) (busy busy' : ℕ) → account < 256 → Whole l → Fair l busy → Stepped c l l' busy busy'
     → most_after account l' busy' cs ≡ most_after account l busy (c ∷ cs)
@@ -70,8 +70,8 @@ unfolding passed operations bills
 most_step account c cs l l' busy busy' low w fair (Stepped.refusedly acc beg kept same) = rw (acc, beg, kept, same)
 most_step account c cs l l' busy busy' low w fair (Stepped.beginning acc beg own idle lasts short after) =
     let all_off : min busy (ticks c + cond (stops c) 0 (passed cs)) ≡ min busy (ticks c) = omega arith in
-    rw (acc, beg, after, lasts, all_off, most-entry account c l busy low w fair)
-    (most-begun (eqb c.account account) (max (get_or l.most account 0) (cond (eqb l.running.account account) (l.running.billed + min busy (ticks c)) 0))
+    rw (acc, beg, after, lasts, all_off, most_entry account c l busy low w fair)
+    (most_begun (eqb c.account account) (max (get_or l.most account 0) (cond (eqb l.running.account account) (l.running.billed + min busy (ticks c)) 0))
     (min (lasts_for c.call) (passed cs)) (bills account (operations cs)))
 most_step account c cs l l' busy busy' low w fair (Stepped.going acc beg left after) =
     rw (acc, beg, after) (ap (λ (m : ℕ). max m (largest (bills account (operations cs)))) (most_going account c l busy low w fair busy' (passed cs) left))

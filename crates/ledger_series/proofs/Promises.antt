@@ -5,7 +5,7 @@ use mathlib.Core.Path.{◌≡◌, refl, sym, ap, ◌∙◌}
 use lib.ListN.{length, get_or}
 use lib.Text.{eqt}
 use Rattle.runs.specs.Run as run
-use Rattle.runs.proofs.Laws.{one_end, one-gathered, one-ran}
+use Rattle.runs.proofs.Laws.{one_end, one_gathered, one_ran}
 use Rattle.calls.specs.declared.Signals.{Signals}
 use Rattle.part.specs.Frame.{Reply}
 use Rattle.series.specs.Turns as turns
@@ -22,7 +22,7 @@ use Rattle.ledger_series.specs.Operations.{sum, largest}
 use Rattle.ledger_series.specs.Series.{Booking, Desk, Made, entries_of, result_of, left, next, results, end, steps_through, made_of, Ran}
 use Rattle.ledger_series.specs.Promises.{Promises, bills_in, effects}
 use Rattle.ledger_series.proofs.Entries.{one_entry}
-use Rattle.ledger_series.proofs.Bills.{right_empty, right_closed, from_empty, from-closed, all_together}
+use Rattle.ledger_series.proofs.Bills.{right_empty, right_closed, from_empty, from_closed, all_together}
 use Rattle.ledger_series.proofs.Folds.{stays_right}
 use Rattle.ledger_series.proofs.Totals.{total, number}
 use Rattle.ledger_series.proofs.Most.{most}
@@ -31,22 +31,22 @@ use Rattle.ledger_series.proofs.Polls.{whoever_polls, refused_changes_nothing}
 use Rattle.ledger_series.proofs.Memories.{as_the_part, answers_as_the_part, as_computed, as_the_code_does}
 use Rattle.ledger_series.proofs.Memories.{can_be_run}
 
-never_from-stored-bytes : (bs also : List Booking) (t u : Desk) → entries_of bs ≡ entries_of also → t.state.device ≡ u.state.device → t.ledger ≡ u.ledger
+never_from_stored_bytes : (bs also : List Booking) (t u : Desk) → entries_of bs ≡ entries_of also → t.state.device ≡ u.state.device → t.ledger ≡ u.ledger
     → (map (λ (r : Result). r.reply) (results bs t) ≡ map (λ (r : Result). r.reply) (results also u)) × ((end bs t).ledger ≡ (end also u).ledger)
     × (series.turns_of (steps_through bs t) ≡ series.turns_of (steps_through also u))
-never_from-stored-bytes bs also t u e d l = (
+never_from_stored_bytes bs also t u e d l = (
   (as_computed bs t).0 ∙ (rw (e, d, l) refl ∙ sym (as_computed also u).0),
   (as_computed bs t).2 ∙ (rw (e, d, l) refl ∙ sym (as_computed also u).2),
   (as_computed bs t).3 ∙ (rw (e, d, l) refl ∙ sym (as_computed also u).3),
 )
 
-and_since_the_last-erase : (bs : List Booking) (t : Desk) (k : ℕ) → k < length t.state.array
+and_since_the_last_erase : (bs : List Booking) (t : Desk) (k : ℕ) → k < length t.state.array
     → get_or (end bs t).state.array k 0
     ≡ and_all (start_at (effects (entries_of bs) t.state.device t.ledger) k (get_or t.state.array k 0))
     (bytes_at (since (effects (entries_of bs) t.state.device t.ledger) k) k)
-and_since_the_last-erase bs t k low =
+and_since_the_last_erase bs t k low =
     ap (λ (s : State). get_or s.array k 0) (as_the_part bs t) ∙
-    ((series-proofs.promises).and_since_the_last-erase (steps_through bs t) t.state k low ∙
+    ((series-proofs.promises).and_since_the_last_erase (steps_through bs t) t.state k low ∙
     ap (λ (ts : List Turn). let os = turns.operations ts t.state.device in and_all (start_at os k (get_or t.state.array k 0)) (bytes_at (since os k) k))
     (as_computed bs t).3)
 
@@ -59,37 +59,37 @@ billed_by_the_code bs t u cs account r e low =
     ap (λ (v : Desk). v.ledger) (as_the_code_does bs t u cs r).1 ∙ ((as_computed bs t).2 ∙ ap (last_ledger (entries_of bs) t.state.device) e) in
     rw last (from_empty (entries_of bs) t.state.device account low)
 
-begun-alone : (busy : ℕ) (signals : Signals) (a b : Reply) (account : ℕ) (l : Ledger) → a.refusal ≡ b.refusal
+begun_alone : (busy : ℕ) (signals : Signals) (a b : Reply) (account : ℕ) (l : Ledger) → a.refusal ≡ b.refusal
     → eqt a.outcome "begun" ≡ eqt b.outcome "begun" → a.device.busy ≡ b.device.busy
     → booked busy signals a account l ≡ booked busy signals b account l
 unfolding booked
-begun-alone busy signals a b account l refusal begun left = rw (refusal, begun, left)
+begun_alone busy signals a b account l refusal begun left = rw (refusal, begun, left)
 
 pub promises : Promises
 promises =
     record {
       one_after_the_other = λ e es d l c r k p q s. rw (s, q, p) (one_entry e es d l);
-      frame_by_frame = λ b bs t r p. rw p (one-gathered next (run.one result_of) b bs t, one_end next b bs t);
-      call_by_call = one-ran result_of left made_of;
+      frame_by_frame = λ b bs t r p. rw p (one_gathered next (run.one result_of) b bs t, one_end next b bs t);
+      call_by_call = one_ran result_of left made_of;
       nine_exactly = λ e d l. nine_exactly (call_of e.turn d) (lengths_of e.turn) e.account l;
       billed_by_the_code = billed_by_the_code;
       billed_to_the_beginner = from_empty;
       from_any_ledger = λ es d l account low w. (total account es d l low w, number account es d l low w);
-      most-from_any = λ es d l account. most account es d l;
+      most_from_any = λ es d l account. most account es d l;
       stays_right = stays_right;
       right_empty = right_empty;
       right_closed = right_closed;
-      next_month = from-closed;
+      next_month = from_closed;
       all_together = all_together;
       all_together_from_any = together;
       whoever_polls = whoever_polls;
       refused_changes_nothing = refused_changes_nothing;
-      begun-alone = begun-alone;
+      begun_alone = begun_alone;
       as_the_part = as_the_part;
       answers_as_the_part = answers_as_the_part;
       as_computed = as_computed;
-      never_from-stored-bytes = never_from-stored-bytes;
-      and_since_the_last-erase = and_since_the_last-erase;
+      never_from_stored_bytes = never_from_stored_bytes;
+      and_since_the_last_erase = and_since_the_last_erase;
       as_the_code_does = as_the_code_does;
       can_be_run = can_be_run;
     }

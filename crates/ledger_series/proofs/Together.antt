@@ -15,7 +15,7 @@ use Rattle.ledger_series.specs.Operations.{stops, ticks, passed, sum, busy_ticks
 use Rattle.ledger_series.specs.Ledgers.{Whole, nobodys}
 use Rattle.ledger_series.proofs.Tables.{sum-at}
 use Rattle.ledger_series.proofs.Steps.{Stepped}
-use Rattle.ledger_series.proofs.Folds.{whole-step, paid-account, off_then, in_the_end}
+use Rattle.ledger_series.proofs.Folds.{whole_step, paid_account, off_then, in_the_end}
 
 -- where no tick is left it does not matter whether somebody runs
 still_nobodys : (r : Running) (off busy p : ℕ)
@@ -28,7 +28,7 @@ still_nobodys r off busy p = by (ℕ_discrete busy 0)
 
     by : Dec (busy ≡ 0) → cond (is_account (cond (eqb busy 0) nobody (paid r off)).account) 0 (min busy p) ≡ cond (is_account r.account) 0 (min busy p)
     by (yes z) = rw z (nothing_left (is_account r.account))
-    by (no n) = rw (ne_eqb busy 0 n, paid-account r off)
+    by (no n) = rw (ne_eqb busy 0 n, paid_account r off)
 
 -- to both sides what nobody is billed is added
 together_begun : (somebody : Bool) (x sums later busy t all : ℕ) → busy ≤ t → x + 0 ≡ sums + cond somebody (min busy t) 0 + later
@@ -64,7 +64,7 @@ pub together : (es : List Entry) (d : Device) (l : Ledger) → Whole l
     → sum (last_ledger es d l).totals + nobodys l d.busy (calls es d l) ≡ sum l.totals + busy_ticks (calls es d l)
 unfolding passed busy_ticks
 together =
-    in_the_end (λ (l : Ledger) (busy : ℕ). Whole l) whole-step
+    in_the_end (λ (l : Ledger) (busy : ℕ). Whole l) whole_step
     (λ (last l : Ledger) (busy : ℕ) (cs : List Done). sum last.totals + nobodys l busy cs
     ≡ sum l.totals + busy_ticks cs)
     (λ l busy r. none_left (is_account l.running.account) (sum l.totals) busy)

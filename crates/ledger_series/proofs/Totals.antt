@@ -18,7 +18,7 @@ use Rattle.ledger_series.specs.Operations.{stops, ticks, passed, operations, bil
 use Rattle.ledger_series.specs.Ledgers.{Whole, rest, total_after, number_after}
 use Rattle.ledger_series.proofs.Tables.{entry_at}
 use Rattle.ledger_series.proofs.Steps.{Stepped}
-use Rattle.ledger_series.proofs.Folds.{whole-step, paid-account, off_then, in_the_end}
+use Rattle.ledger_series.proofs.Folds.{whole_step, paid_account, off_then, in_the_end}
 
 -- where no tick is left it does not matter who runs
 still_running : (account : ℕ) (r : Running) (off busy p : ℕ)
@@ -33,7 +33,7 @@ still_running account r off busy p = by (ℕ_discrete busy 0)
 
     by : Dec (busy ≡ 0) → rest account (cond (eqb busy 0) nobody (paid r off)) busy p ≡ rest account r busy p
     by (yes z) = rw z (nothing_left (eqb 256 account) (eqb r.account account))
-    by (no n) = rw (ne_eqb busy 0 n, paid-account r off)
+    by (no n) = rw (ne_eqb busy 0 n, paid_account r off)
 
 -- what came off before the frame that begins is all that was left
 total_begun : (r own : Bool) (total busy t x bill : ℕ) (bs : List ℕ) → busy ≤ t
@@ -64,17 +64,17 @@ total_step account c cs l l' busy busy' low w (Stepped.going acc beg left after)
     (min busy (ticks c + cond (stops c) 0 (passed cs))) (sum (bills account (operations cs))) (off_then (stops c) busy busy' (ticks c) (passed cs) left))
 
 -- nothing is left to pass after the last call
-pub none-later : (b : Bool) (busy : ℕ) → cond b (min busy 0) 0 ≡ 0
-none-later true busy = omega arith
-none-later false busy = refl
+pub none_later : (b : Bool) (busy : ℕ) → cond b (min busy 0) 0 ≡ 0
+none_later true busy = omega arith
+none_later false busy = refl
 
 pub total : (account : ℕ) (es : List Entry) (d : Device) (l : Ledger) → account < 256 → Whole l
     → get_or (last_ledger es d l).totals account 0 ≡ total_after account l d.busy (calls es d l)
 unfolding passed operations bills sum
 total account es d l low =
-    in_the_end (λ (l : Ledger) (busy : ℕ). Whole l) whole-step
+    in_the_end (λ (l : Ledger) (busy : ℕ). Whole l) whole_step
     (λ (last l : Ledger) (busy : ℕ) (cs : List Done). get_or last.totals account 0 ≡ total_after account l busy cs)
-    (λ l busy r. rw (none-later (eqb l.running.account account) busy) (omega arith))
+    (λ l busy r. rw (none_later (eqb l.running.account account) busy) (omega arith))
     (λ last c cs l l' busy' r after e. e ∙ total_step account c cs l l' c.call.device.busy busy' low r after) es d
     l
 
@@ -95,7 +95,7 @@ pub number : (account : ℕ) (es : List Entry) (d : Device) (l : Ledger) → acc
     → get_or (last_ledger es d l).numbers account 0 ≡ number_after account l (calls es d l)
 unfolding operations bills
 number account es d l low =
-    in_the_end (λ (l : Ledger) (busy : ℕ). Whole l) whole-step
+    in_the_end (λ (l : Ledger) (busy : ℕ). Whole l) whole_step
     (λ (last l : Ledger) (busy : ℕ) (cs : List Done). get_or last.numbers account 0 ≡ number_after account l cs)
     (λ l busy r. omega arith)
     (λ last c cs l l' busy' r after e. e ∙ number_step account c cs l l' c.call.device.busy busy' low r after) es d

@@ -80,7 +80,7 @@ pub record Promises : Type 0 where
       × (get_or (last_ledger es d l).numbers account 0 ≡ number_after account l (calls es d l))
   -- Its most is what stood there, what the running operation is billed in all, or the largest of the bills, if what it
   -- was billed so far was right at first. Then it stays right; and it is in an empty ledger, and in a closed one.
-  pub most-from_any : (es : List Entry) (d : Device) (l : Ledger) (account : ℕ) → account < 256 → Right l d.busy
+  pub most_from_any : (es : List Entry) (d : Device) (l : Ledger) (account : ℕ) → account < 256 → Right l d.busy
       → get_or (last_ledger es d l).most account 0 ≡ most_after account l d.busy (calls es d l)
   pub stays_right : (es : List Entry) (d : Device) (l : Ledger) → Right l d.busy
       → Right (last_ledger es d l) (last_record es d l).busy
@@ -123,7 +123,7 @@ pub record Promises : Type 0 where
       × (last_record (before ++ e ∷ after) d l ≡ last_record (before ++ after) d l)
   -- The ledger reads of the outcome whether it is begun, and nothing else: no cause, and nothing of what was driven or
   -- covered.
-  pub begun-alone : (busy : ℕ) (signals : Signals) (a b : Reply) (account : ℕ) (l : Ledger)
+  pub begun_alone : (busy : ℕ) (signals : Signals) (a b : Reply) (account : ℕ) (l : Ledger)
       → a.refusal ≡ b.refusal → eqt a.outcome "begun" ≡ eqt b.outcome "begun" → a.device.busy
       ≡ b.device.busy → booked busy signals a account l ≡ booked busy signals b account l
   -- Demand 3, through the ledger. On memories, the calls that the ledger lets through are a series as it stands without
@@ -142,14 +142,14 @@ pub record Promises : Type 0 where
       × (series.turns_of (steps_through bs t) ≡ turns_through (entries_of bs) t.state.device t.ledger)
   -- never from stored bytes: two series with the same entries, first record and first ledger answer and bill alike, and
   -- the same operations take effect.
-  pub never_from-stored-bytes : (bs also : List Booking) (t u : Desk) → entries_of bs ≡ entries_of also → t.state.device
+  pub never_from_stored_bytes : (bs also : List Booking) (t u : Desk) → entries_of bs ≡ entries_of also → t.state.device
       ≡ u.state.device → t.ledger ≡ u.ledger
       → (map (λ (r : Result). r.reply) (results bs t) ≡ map (λ (r : Result). r.reply) (results also u))
       × ((end bs t).ledger ≡ (end also u).ledger)
       × (series.turns_of (steps_through bs t) ≡ series.turns_of (steps_through also u))
   -- Each byte afterwards is the AND of all bytes programmed at it since the last erase that covered it, starting from
   -- FFh, or from its first content if none covered it.
-  pub and_since_the_last-erase : (bs : List Booking) (t : Desk) (k : ℕ) → k < length t.state.array
+  pub and_since_the_last_erase : (bs : List Booking) (t : Desk) (k : ℕ) → k < length t.state.array
       → get_or (end bs t).state.array k 0
       ≡ and_all (start_at (effects (entries_of bs) t.state.device t.ledger) k (get_or t.state.array k 0))
       (bytes_at (since (effects (entries_of bs) t.state.device t.ledger) k) k)

@@ -97,8 +97,8 @@ stopped_by_a_reset =
 
 -- 20 ticks are left in the first record: 15 and then the other 5 pass and are nobody's, though account 4 calls. Of its
 -- program 2 are billed.
-abbrev first-record : List Entry
-first-record = poll 4 15 ∷ sent 4 10 (0x06 ∷ []) ∷ sent 4 0 (0x02 ∷ 0x00 ∷ 0x00 ∷ 0x00 ∷ 0x5A ∷ []) ∷ poll 5 2 ∷ []
+abbrev first_record : List Entry
+first_record = poll 4 15 ∷ sent 4 10 (0x06 ∷ []) ∷ sent 4 0 (0x02 ∷ 0x00 ∷ 0x00 ∷ 0x00 ∷ 0x5A ∷ []) ∷ poll 5 2 ∷ []
 
 -- A status write, 20,000 ticks, and an OTP program, 400, are operations; a write of status byte 2 is none.
 abbrev two_operations : List Entry
@@ -151,8 +151,8 @@ past_the_end =
 -- In an hour that account 12 began with a bill of 700, account 5's operation runs, billed 30 so far, and 100 ticks are
 -- left. Account 12 polls with 11 bits at 4 ticks a position: 8 ticks. It programs one byte when all has passed: 92 more
 -- are account 5's, and 12 its own.
-abbrev a_running-one : Ledger
-a_running-one =
+abbrev a_running_one : Ledger
+a_running_one =
     ledger (set (set zeros 5 40) 12 700) (set (set zeros 5 30) 12 700) (set (set zeros 5 2) 12 1) (runs 5 30)
 
 abbrev over_the_border : List Entry
@@ -165,9 +165,9 @@ pub record Worked : Type 0 where
   pub at_the_limit : answered two_calls (latched false) (total_of 255 9000000000000000000) ≡ 0 ∷ 9 ∷ []
   pub total_above : answered two_calls (latched false) (total_of 254 9000000000000000001) ≡ 9 ∷ 9 ∷ []
   pub first_above : answered two_calls (latched false) (total_of 0 9000000000000000001) ≡ 9 ∷ 9 ∷ []
-  pub last-above : answered two_calls (latched false) (total_of 255 18446744073709551615) ≡ 9 ∷ 9 ∷ []
-  pub number-at_the_limit : answered two_calls (latched false) (number_of 0 9000000000000000000) ≡ 0 ∷ 9 ∷ []
-  pub number-above : answered two_calls (latched false) (number_of 255 9000000000000000001) ≡ 9 ∷ 9 ∷ []
+  pub last_above : answered two_calls (latched false) (total_of 255 18446744073709551615) ≡ 9 ∷ 9 ∷ []
+  pub number_at_the_limit : answered two_calls (latched false) (number_of 0 9000000000000000000) ≡ 0 ∷ 9 ∷ []
+  pub number_above : answered two_calls (latched false) (number_of 255 9000000000000000001) ≡ 9 ∷ 9 ∷ []
   pub most_is_free : answered two_calls (latched false) (ledger zeros (set zeros 3 18446744073709551615) zeros nobody)
       ≡ 0 ∷ 9 ∷ []
   pub others_first : answered (given 0 7 ∷ given 0 256 ∷ given 1 255 ∷ []) (latched false)
@@ -194,26 +194,26 @@ pub record Worked : Type 0 where
   pub past : last_ledger past_the_end (busy 0) empty
       ≡ ledger (set zeros 0 9012) (set zeros 0 7000) (set zeros 0 3) nobody
   -- from a ledger in which something runs: 40 and 100 are 140, 30 and 100 are 130
-  pub border : last_ledger over_the_border (busy 100) a_running-one
+  pub border : last_ledger over_the_border (busy 100) a_running_one
       ≡ ledger (set (set zeros 5 140) 12 712) (set (set zeros 5 130) 12 700) (set (set zeros 5 2) 12 2) nobody
-  pub border_partly : last_ledger (partial 4 12 ∷ []) (busy 100) a_running-one
+  pub border_partly : last_ledger (partial 4 12 ∷ []) (busy 100) a_running_one
       ≡ ledger (set (set zeros 5 48) 12 700) (set (set zeros 5 38) 12 700) (set (set zeros 5 2) 12 1) (runs 5 38)
   -- the month closed before: 100 ticks are one bill of the new month, and no operation of it
-  pub new_month : last_ledger over_the_border (busy 100) (closed a_running-one)
+  pub new_month : last_ledger over_the_border (busy 100) (closed a_running_one)
       ≡ ledger (set (set zeros 5 100) 12 12) (set (set zeros 5 100) 12 12) (set zeros 12 1) nobody
-  pub new_month_partly : last_ledger (partial 4 12 ∷ []) (busy 100) (closed a_running-one)
+  pub new_month_partly : last_ledger (partial 4 12 ∷ []) (busy 100) (closed a_running_one)
       ≡ ledger (set zeros 5 8) (set zeros 5 8) zeros (runs 5 8)
-  pub closed_is : closed a_running-one ≡ ledger zeros zeros zeros (runs 5 0)
+  pub closed_is : closed a_running_one ≡ ledger zeros zeros zeros (runs 5 0)
   -- what was billed so far stops at the largest number of 64 bits
-  pub largest-number : last_ledger (poll 7 10 ∷ []) (busy 12) (ledger zeros zeros zeros (runs 9 18446744073709551611))
+  pub largest_number : last_ledger (poll 7 10 ∷ []) (busy 12) (ledger zeros zeros zeros (runs 9 18446744073709551611))
       ≡ ledger (set zeros 9 10) (set zeros 9 18446744073709551615) zeros (runs 9 18446744073709551615)
   -- an account over 255 is nobody, whatever stands there
-  pub nobody-runs : last_ledger (poll 7 10 ∷ []) (busy 12) (ledger zeros zeros zeros (runs 256 5))
+  pub nobody_runs : last_ledger (poll 7 10 ∷ []) (busy 12) (ledger zeros zeros zeros (runs 256 5))
       ≡ ledger zeros zeros zeros (runs 256 5)
   -- the report on an account, and on one that there is not
   pub report : reported 7 (set zeros 7 1000012) (set zeros 7 1000000) (set zeros 7 2)
       ≡ record { refusal = Refusal.Accepted; total = 1000012; most = 1000000; number = 2 }
-  pub report-last : reported 255 (set zeros 255 3) (set zeros 255 2) (set zeros 255 1)
+  pub report_last : reported 255 (set zeros 255 3) (set zeros 255 2) (set zeros 255 1)
       ≡ record { refusal = Refusal.Accepted; total = 3; most = 2; number = 1 }
   pub report_other : reported 0 (set zeros 7 1000012) (set zeros 7 1000000) (set zeros 7 2)
       ≡ record { refusal = Refusal.Accepted; total = 0; most = 0; number = 0 }
@@ -226,7 +226,7 @@ pub record Worked : Type 0 where
   pub nothing : last_ledger never_latched (busy 0) empty ≡ empty
   pub reset : last_ledger stopped_by_a_reset (busy 0) empty
       ≡ ledger (set (set zeros 3 110) 9 5) (set (set zeros 3 110) 9 5) (set (set zeros 3 1) 9 1) (runs 9 5)
-  pub nobodys : last_ledger first-record (busy 20) empty
+  pub nobodys : last_ledger first_record (busy 20) empty
       ≡ ledger (set zeros 4 2) (set zeros 4 2) (set zeros 4 1) (runs 4 2)
   pub both : last_ledger two_operations (busy 0) empty
       ≡ ledger (set zeros 255 20400) (set zeros 255 20000) (set zeros 255 2) nobody

@@ -15,5 +15,5 @@ array_long n e = by (eqb n 131072) (eqb-true n 131072) e
     by true large e = let l : n ≡ 131072 = large refl in (omega arith, omega arith, omega arith)
     by false large e = let l : n ≡ 65536 = eqb-true n 65536 e in (omega arith, omega arith, omega arith)
 
-pub register-long : (n : ℕ) → is_register n ≡ true → n ≡ 128
-register-long n e = eqb-true n 128 e
+pub register_long : (n : ℕ) → is_register n ≡ true → n ≡ 128
+register_long n e = eqb-true n 128 e

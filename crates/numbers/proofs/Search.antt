@@ -12,5 +12,5 @@ module _ {A B : Type 0} (f : List A → B) (xs : List A) (i : ℕ) (w : B) (left
   from_here d l = rw (add-one i) (rw (drop-cons xs i d l) at left)
 
   -- behind the last there are none
-  pub at-end : length xs ≤ i → f [] ≡ w
-  at-end l = rw (drop_of_length-le xs l) at left
+  pub at_end : length xs ≤ i → f [] ≡ w
+  at_end l = rw (drop_of_length-le xs l) at left

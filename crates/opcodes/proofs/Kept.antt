@@ -10,10 +10,10 @@ use Rattle.opcodes.specs.declared.Command.TheVariants.{Unlisted, Reads, Orders, 
 use Rattle.opcodes.specs.declared.Order.{Order}
 use Rattle.opcodes.specs.declared.Source.{Source}
 use Rattle.opcodes.specs.declared.Work.{Work}
-use Rattle.opcodes.specs.Kinds.{resuming, resumes}
+use Rattle.opcodes.specs.Kinds.{resumes}
 use Rattle.opcodes.specs.Rows.{row_of}
 use Rattle.opcodes.specs.Rule.{rule_of, ordered_on_boundary, ordered_while_busy, ordered_bytes}
-use Rattle.opcodes.proofs.Table.{rule-kept, sleep-kept}
+use Rattle.opcodes.proofs.Table.{rule_kept, sleep_kept}
 
 same : (a b : Bool) → beq a b ≡ true → a ≡ b
 same true true e = refl
@@ -26,11 +26,11 @@ module _ (code : ℕ) where
   row = row_of code
 
   kept : (command : Command) → row.command ≡ command → rule_of command row ≡ true
-  kept command e = subst (λ (c : Command). rule_of c row ≡ true) e (rule-kept code)
+  kept command e = subst (λ (c : Command). rule_of c row ≡ true) e (rule_kept code)
 
   -- the column of deep power-down
   pub asleep_is : (command : Command) → row.command ≡ command → row.asleep ≡ resumes command
-  asleep_is command e = subst (λ (c : Command). row.asleep ≡ resumes c) e (same row.asleep _ (sleep-kept code))
+  asleep_is command e = subst (λ (c : Command). row.asleep ≡ resumes c) e (same row.asleep _ (sleep_kept code))
 
   pub unlisted_latch : row.command ≡ Unlisted → row.latch ≡ false
   unlisted_latch e =

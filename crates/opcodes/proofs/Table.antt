@@ -30,14 +30,14 @@ looked_up test (r ∷ rs) code e n =
     by false p q = q
 
 -- every row keeps to the rule
-pub rule-kept : (code : ℕ) → rule (row_of code) ≡ true
+pub rule_kept : (code : ℕ) → rule (row_of code) ≡ true
 unfolding every lookup rows row_of
-rule-kept code = looked_up rule rows code refl refl
+rule_kept code = looked_up rule rows code refl refl
 
 -- and to that of deep power-down
-pub sleep-kept : (code : ℕ) → sleep_rule (row_of code) ≡ true
+pub sleep_kept : (code : ℕ) → sleep_rule (row_of code) ≡ true
 unfolding every lookup rows row_of
-sleep-kept code = looked_up sleep_rule rows code refl refl
+sleep_kept code = looked_up sleep_rule rows code refl refl
 
 -- no row has that opcode
 absent : ℕ → List Row → Bool

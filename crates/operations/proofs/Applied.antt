@@ -7,7 +7,7 @@ use mathlib.Core.Path.{◌≡◌, refl, sym, ap, ◌∙◌}
 use lib.Bits.{bit_and}
 use lib.ListN.{length}
 use Rattle.runs.specs.Run as run
-use Rattle.runs.proofs.Laws.{end-joined, kept}
+use Rattle.runs.proofs.Laws.{end_joined, kept}
 use Rattle.cells.specs.Each.{Cell, each, over}
 use Rattle.pages.specs.Page.{aimed_at, last}
 use Rattle.cells.proofs.Places.{length-each, each_same, each_then}
@@ -18,36 +18,36 @@ use Rattle.operations.specs.Bytes.{Program, carried, applied, through, erases, e
 use Rattle.operations.specs.Bytes.{and_all, start_at, program_of}
 
 -- two lists joined: the second on what the first one left
-pub applied-joined : (os ps : List Operation) (xs : List ℕ) → applied (os ++ ps) xs ≡ applied ps (applied os xs)
+pub applied_joined : (os ps : List Operation) (xs : List ℕ) → applied (os ++ ps) xs ≡ applied ps (applied os xs)
 unfolding applied
-applied-joined = end-joined carried
+applied_joined = end_joined carried
 
 pub length-applied : (os : List Operation) (xs : List ℕ) → length (applied os xs) ≡ length xs
 unfolding applied
 length-applied os xs = kept carried (λ (ys : List ℕ). length ys ≡ length xs) (λ o ys e. length-each (cell_of o) ys ∙ e) os xs refl
 
-pub applied-each : (os : List Operation) (xs : List ℕ) → applied os xs ≡ each (through os) xs
+pub applied_each : (os : List Operation) (xs : List ℕ) → applied os xs ≡ each (through os) xs
 unfolding applied through
-applied-each [] xs = each_same xs
-applied-each (o ∷ os) xs = applied-each os (each (cell_of o) xs) ∙ each_then (through os) (cell_of o) (through (o ∷ os)) xs (λ k l. refl)
+applied_each [] xs = each_same xs
+applied_each (o ∷ os) xs = applied_each os (each (cell_of o) xs) ∙ each_then (through os) (cell_of o) (through (o ∷ os)) xs (λ k l. refl)
 
 -- an operation that does not erase the place ANDs the byte that it programs there
-one-anded : (o : Operation) (k x : ℕ) → erases o k ≡ false → cell_of o k x ≡ and_all x (byte_of o k)
+one_anded : (o : Operation) (k x : ℕ) → erases o k ≡ false → cell_of o k x ≡ and_all x (byte_of o k)
 unfolding and_all over
-one-anded none k x e = refl
-one-anded (program size page start sent) k x e = by (aimed_at size page start sent k) (last size start sent (length sent) (k - page) 0xFF)
+one_anded none k x e = refl
+one_anded (program size page start sent) k x e = by (aimed_at size page start sent k) (last size start sent (length sent) (k - page) 0xFF)
   where
     by : (b : Bool) (byte : ℕ) → cond b (bit_and x byte) x ≡ and_all x (cond b (byte ∷ []) [])
     by true byte = refl
     by false byte = refl
-one-anded (erase from to) k x e = rw e
+one_anded (erase from to) k x e = rw e
 
 -- an erase that covers the place leaves FFh there, whatever was there
-one-erased : (o : Operation) (k x : ℕ) → erases o k ≡ true → cell_of o k x ≡ 0xFF
+one_erased : (o : Operation) (k x : ℕ) → erases o k ≡ true → cell_of o k x ≡ 0xFF
 unfolding over
-one-erased none k x e = absurd (false≢true e)
-one-erased (program size page start sent) k x e = absurd (false≢true e)
-one-erased (erase from to) k x e = rw e
+one_erased none k x e = absurd (false≢true e)
+one_erased (program size page start sent) k x e = absurd (false≢true e)
+one_erased (erase from to) k x e = rw e
 
 -- with no erase of the place among them, the operations AND all that they program there
 all_anded : (os : List Operation) (k x : ℕ) → erased_in os k ≡ false → through os k x ≡ and_all x (bytes_at os k)
@@ -58,19 +58,19 @@ all_anded (o ∷ os) k x e = by (erases o k) refl (all_anded os k (cell_of o k x
     by : (b : Bool) → erases o k ≡ b → (erased_in os k ≡ false → through os k (cell_of o k x) ≡ and_all (cell_of o k x) (bytes_at os k)) → (b || erased_in os k) ≡ false
         → through os k (cell_of o k x) ≡ and_all x (byte_of o k ++ bytes_at os k)
     by true h ih e = absurd (true≢false e)
-    by false h ih e = ih e ∙ (ap (λ (y : ℕ). and_all y (bytes_at os k)) (one-anded o k x h) ∙ sym (end-joined (λ b x. bit_and x b) (byte_of o k) (bytes_at os k) x))
+    by false h ih e = ih e ∙ (ap (λ (y : ℕ). and_all y (bytes_at os k)) (one_anded o k x h) ∙ sym (end_joined (λ b x. bit_and x b) (byte_of o k) (bytes_at os k) x))
 
 -- the AND of all bytes programmed at the place since the last erase that covered it, from FFh or from what was there at first
-pub since_the_last-erase : (os : List Operation) (k x : ℕ) → through os k x ≡ and_all (start_at os k x) (bytes_at (since os k) k)
+pub since_the_last_erase : (os : List Operation) (k x : ℕ) → through os k x ≡ and_all (start_at os k x) (bytes_at (since os k) k)
 unfolding through since erased_in bytes_at and_all
-since_the_last-erase [] k x = refl
-since_the_last-erase (o ∷ os) k x = by (erases o k) (erased_in os k) refl refl (since_the_last-erase os k (cell_of o k x))
+since_the_last_erase [] k x = refl
+since_the_last_erase (o ∷ os) k x = by (erases o k) (erased_in os k) refl refl (since_the_last_erase os k (cell_of o k x))
   where
     by : (b c : Bool) → erases o k ≡ b → erased_in os k ≡ c
         → through os k (cell_of o k x) ≡ and_all (cond (erased_in os k) 0xFF (cell_of o k x)) (bytes_at (since os k) k)
         → through os k (cell_of o k x) ≡ and_all (cond (b || c) 0xFF x) (bytes_at (cond (b || c) (since os k) (o ∷ os)) k)
     by true true h g ih = ih ∙ rw g
-    by true false h g ih = ih ∙ rw (g, one-erased o k x h)
+    by true false h g ih = ih ∙ rw (g, one_erased o k x h)
     by false true h g ih = ih ∙ rw g
     by false false h g ih = all_anded (o ∷ os) k x (rw (h, g))
 
@@ -90,8 +90,8 @@ three : (before between after : List Operation) (p q : Operation) (xs : List ℕ
     → applied (before ++ p ∷ between ++ q ∷ after) xs ≡ applied after (each (cell_of q) (applied between (each (cell_of p) (applied before xs))))
 unfolding applied
 three before between after p q xs =
-    applied-joined (before ++ p ∷ between) (q ∷ after) xs ∙
-    ap (λ (ys : List ℕ). applied after (each (cell_of q) ys)) (applied-joined before (p ∷ between) xs)
+    applied_joined (before ++ p ∷ between) (q ∷ after) xs ∙
+    ap (λ (ys : List ℕ). applied after (each (cell_of q) ys)) (applied_joined before (p ∷ between) xs)
 
 -- two programs with nothing but programs between them may change places
 pub programs_exchanged : (before after : List Operation) (between : List Program) (p q : Program) (xs : List ℕ)
@@ -115,4 +115,4 @@ again (erase from to) xs = erase_twice from to xs
 pub operation_twice : (before after : List Operation) (o : Operation) (xs : List ℕ) → applied (before ++ o ∷ o ∷ after) xs ≡ applied (before ++ o ∷ after) xs
 unfolding applied
 operation_twice before after o xs =
-    applied-joined before (o ∷ o ∷ after) xs ∙ (ap (applied after) (again o (applied before xs)) ∙ sym (applied-joined before (o ∷ after) xs))
+    applied_joined before (o ∷ o ∷ after) xs ∙ (ap (applied after) (again o (applied before xs)) ∙ sym (applied_joined before (o ∷ after) xs))

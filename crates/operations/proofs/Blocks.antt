@@ -6,7 +6,7 @@ use mathlib.Core.Path.{◌≡◌, refl, ap}
 use native.Mathlib.Nat.{div-eq_of_lt, mod-lt}
 use native.Mathlib.Omega.{arith}
 use Rattle.cells.proofs.Places.{over_out}
-use Rattle.cells.proofs.Runs.{range-behind}
+use Rattle.cells.proofs.Runs.{range_behind}
 use Rattle.opcodes.specs.declared.Region.{Region}
 use Rattle.opcodes.specs.declared.Region.TheVariants.{Page, Small, Large, Chip}
 use Rattle.judge.specs.declared.Action.{Action}
@@ -34,13 +34,13 @@ operation_inside Action.Program size input e k x l =
     let long = array_long size e in
     let place = address_of input % size in
     let fits : block_of 256 place + 256 ≤ size = (block_inside Page size place long.0 long.1 (mod-lt (address_of input) long.0)).1 in
-    over_out _ _ k x (rw (range-behind (block_of 256 place) (block_of 256 place + 256) k (omega arith)))
+    over_out _ _ k x (rw (range_behind (block_of 256 place) (block_of 256 place + 256) k (omega arith)))
 operation_inside (Action.Erase region) size input e k x l =
     let long = array_long size e in
     let place = address_of input % size in
     let start = block_of (width_of region size) place in
     let fits : start + width_of region size ≤ size = (block_inside region size place long.0 long.1 (mod-lt (address_of input) long.0)).1 in
-    over_out _ _ k x (range-behind start (start + width_of region size) k (omega arith))
+    over_out _ _ k x (range_behind start (start + width_of region size) k (omega arith))
 operation_inside Action.Otp size input e k x l = refl
 
 -- and one on the register what lies behind the user's bytes
@@ -49,4 +49,4 @@ once_inside Action.Still input k x l = refl
 once_inside (Action.Drive source) input k x l = refl
 once_inside Action.Program input k x l = refl
 once_inside (Action.Erase region) input k x l = refl
-once_inside Action.Otp input k x l = over_out _ _ k x (rw (range-behind 0 64 k l))
+once_inside Action.Otp input k x l = over_out _ _ k x (rw (range_behind 0 64 k l))

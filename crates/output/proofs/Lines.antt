@@ -14,8 +14,8 @@ use lib.Pow.{pow_mono}
 use lib.Seq.{get_or-set_same, get_or-set_other}
 use Rattle.cells.specs.Each.{Cell, each, over, stored}
 use Rattle.cells.specs.Range.{range, filled, copied}
-use Rattle.cells.proofs.Places.{is_each, each-alike, each_then, over_in, over_out, over-alike}
-use Rattle.cells.proofs.Runs.{range_in, range_before, range-behind, range_of_lem, begins, runs_on, ends}
+use Rattle.cells.proofs.Places.{is_each, each_alike, each_then, over_in, over_out, over_alike}
+use Rattle.cells.proofs.Runs.{range_in, range_before, range_behind, range_of_lem, begins, runs_on, ends}
 use Rattle.opcodes.specs.declared.Source.{Source}
 use Rattle.device.specs.declared.Device.{Device}
 use Rattle.output.specs.Output.{Store, store, store_of, start_of, byte_from, drive_at, unclocked}
@@ -25,9 +25,9 @@ use Rattle.output.specs.Steps.{sent, clipped}
 pub from_address : (memory : List ℕ) (address first end : ℕ) (xs : List ℕ)
     → each (copied first end memory (address % length memory)) xs ≡ each (stored (range first end) (λ k. byte_from (store memory) address (k - first))) xs
 from_address memory address first end xs =
-    each-alike (copied first end memory (address % length memory)) (stored (range first end) (λ k. byte_from (store memory) address (k - first))) xs
+    each_alike (copied first end memory (address % length memory)) (stored (range first end) (λ k. byte_from (store memory) address (k - first))) xs
     (λ k l.
-    over-alike (range first end) (range first end) (λ k x. get_or memory ((address % length memory + (k - first)) % length memory) 0)
+    over_alike (range first end) (range first end) (λ k x. get_or memory ((address % length memory + (k - first)) % length memory) 0)
     (λ k x. byte_from (store memory) address (k - first)) k (get_or xs k 0) refl
     (λ c. ap (λ (i : ℕ). get_or memory i 0) (mod-add-mod address (length memory) (k - first))))
 
@@ -78,7 +78,7 @@ pub pieces : (source : Source) (stand : ℕ → Device) (wp : Bool) (array regis
 pieces source stand wp array register input first end bytes xs p q =
     let before = runs_on (begins f 0 bytes xs (omega arith)) (λ k x. 0xFF) first _ (omega arith) (omega arith) refl (λ k x l h. out k (range_before first end k h)) in
     let between = runs_on before (λ k x. byte_from (m k) start (k - first)) end _ p q refl (λ k x l h. into k (range_in first end k l h)) in
-    let behind = runs_on between (λ k x. 0xFF) bytes _ q (omega arith) refl (λ k x l h. out k (range-behind first end k l)) in
+    let behind = runs_on between (λ k x. 0xFF) bytes _ q (omega arith) refl (λ k x l h. out k (range_behind first end k l)) in
     ends behind (omega arith)
   where
     m : ℕ → Store

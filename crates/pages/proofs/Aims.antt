@@ -45,8 +45,8 @@ last_aimed size start sent (suc n) i p x l m e = by (ℕ_discrete i n) (λ k. la
         rw (ne_eqb ((start + n) % size) p (λ d. aimed_once size start i n k m (e ∙ sym d))) (ih k)
 
 -- and where the first byte that would aim at p is not sent, none does
-pub none-aims : (size start n j p : ℕ) → n ≤ j → j < size → (start + j) % size ≡ p → covered size start n p ≡ false
+pub none_aims : (size start n j p : ℕ) → n ≤ j → j < size → (start + j) % size ≡ p → covered size start n p ≡ false
 unfolding covered
-none-aims size start zero j p l m e = refl
-none-aims size start (suc n) j p l m e =
-    rw (ne_eqb ((start + n) % size) p (λ d. aimed_once size start n j l (omega arith) (d ∙ sym e))) (none-aims size start n j p (omega arith) m e)
+none_aims size start zero j p l m e = refl
+none_aims size start (suc n) j p l m e =
+    rw (ne_eqb ((start + n) % size) p (λ d. aimed_once size start n j l (omega arith) (d ∙ sym e))) (none_aims size start n j p (omega arith) m e)

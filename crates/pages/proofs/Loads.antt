@@ -11,7 +11,7 @@ use lib.ListN.{length, get_or}
 use Rattle.cells.specs.Each.{each}
 use Rattle.cells.specs.Range.{run}
 use Rattle.pages.specs.Page.{last}
-use Rattle.cells.proofs.Places.{each_then, is_each, length-each, over_in, over_out, over-alike}
+use Rattle.cells.proofs.Places.{each_then, is_each, length-each, over_in, over_out, over_alike}
 use Rattle.cells.proofs.Runs.{range_in, range_more, range_none}
 
 -- The data byte `at` aims at `next`.
@@ -45,7 +45,7 @@ module _ (size start at next : ℕ) (here : next ≡ (start + at) % size) where
       by (no e) ih =
           let more : next + suc n ≡ next + n + 1 = omega arith in
           rw (more, add-suc at n, ne_eqb ((start + (at + n)) % size) k (λ d. e (sym d ∙ aim)))
-          (over-alike _ _ _ _ k y (range_more next (next + n) k e) (λ c. refl) ∙ ih)
+          (over_alike _ _ _ _ k y (range_more next (next + n) k e) (λ c. refl) ∙ ih)
 
 -- The buffer has received the first `at` data bytes; the next one aims at `next`, unless there is none.
 pub record Loading (size start : ℕ) (sent xs : List ℕ) (at next : ℕ) (ys : List ℕ) : Type 0 where

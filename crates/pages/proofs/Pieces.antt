@@ -10,18 +10,18 @@ use lib.ListN.{length, get_or, set, take, drop, length-drop, drop_of_length-le}
 use lib.Seq.{get_or-take, get_or-drop, length-take-le, take_all}
 use Rattle.cells.specs.Each.{each}
 use Rattle.pages.specs.Page.{anded_in}
-use Rattle.cells.proofs.Places.{each-alike, each_same, over_in, over_out}
-use Rattle.cells.proofs.Runs.{Reached, begins, goes_on, ends, range_in, range_before, range-behind}
+use Rattle.cells.proofs.Places.{each_alike, each_same, over_in, over_out}
+use Rattle.cells.proofs.Runs.{Reached, begins, goes_on, ends, range_in, range_before, range_behind}
 
 -- the piece of a list from one place up to another
 abbrev pub piece : ℕ → ℕ → List ℕ → List ℕ
 piece from to xs = take (to - from) (drop from xs)
 
-pub piece-long : (from to : ℕ) (xs : List ℕ) → to ≤ length xs → length (piece from to xs) ≡ to - from
-piece-long from to xs l = length-take-le (to - from) (drop from xs) (omega (arith, length-drop from xs))
+pub piece_long : (from to : ℕ) (xs : List ℕ) → to ≤ length xs → length (piece from to xs) ≡ to - from
+piece_long from to xs l = length-take-le (to - from) (drop from xs) (omega (arith, length-drop from xs))
 
-pub piece-at : (from to : ℕ) (xs : List ℕ) (j : ℕ) → j < to - from → get_or (piece from to xs) j 0 ≡ get_or xs (from + j) 0
-piece-at from to xs j l = get_or-take (to - from) (drop from xs) j 0 l ∙ get_or-drop from xs j 0
+pub piece_at : (from to : ℕ) (xs : List ℕ) (j : ℕ) → j < to - from → get_or (piece from to xs) j 0 ≡ get_or xs (from + j) 0
+piece_at from to xs j l = get_or-take (to - from) (drop from xs) j 0 l ∙ get_or-drop from xs j 0
 
 -- from its end on a list is as empty as from any place behind it
 pub from_the_end : (at from : ℕ) (xs : List ℕ) → at ≡ min from (length xs) → piece at (length xs) xs ≡ drop from xs
@@ -45,7 +45,7 @@ module _ (at : ℕ) (buffer : List ℕ) (k x : ℕ) where
   not_before l = over_out _ _ k x (range_before at (at + length buffer) k l)
 
   pub not_behind : at + length buffer ≤ k → anded_in at buffer k x ≡ x
-  not_behind l = over_out _ _ k x (range-behind at (at + length buffer) k l)
+  not_behind l = over_out _ _ k x (range_behind at (at + length buffer) k l)
 
 -- Four bytes ANDed in without a loop.
 module _ (at : ℕ) (buffer xs : List ℕ) (four : length buffer ≡ 4) (fits : at + 4 ≤ length xs) where
@@ -70,7 +70,7 @@ module _ (at : ℕ) (buffer xs : List ℕ) (four : length buffer ≡ 4) (fits : 
 -- nothing to AND changes nothing
 pub none_left : (at : ℕ) (buffer xs : List ℕ) → length buffer ≡ 0 → each (anded_in at buffer) xs ≡ xs
 none_left at buffer xs e =
-    each-alike (anded_in at buffer) (λ k x. x) xs (λ k l. by k (get_or xs k 0) (dec_lt k at)) ∙ sym (each_same xs)
+    each_alike (anded_in at buffer) (λ k x. x) xs (λ k l. by k (get_or xs k 0) (dec_lt k at)) ∙ sym (each_same xs)
   where
     by : (k x : ℕ) → Dec (k < at) → anded_in at buffer k x ≡ x
     by k x (yes m) = not_before at buffer k x m

@@ -15,7 +15,7 @@ use lib.Seq.{get_or-take, get_or-drop, length-take-le}
 use Rattle.cells.specs.Each.{each, over}
 use Rattle.cells.specs.Range.{range}
 use Rattle.pages.specs.Page.{aims, covered, last, loaded, anded_in, programmed}
-use Rattle.cells.proofs.Places.{each-alike, get_or-each, length-each}
+use Rattle.cells.proofs.Places.{each_alike, get_or-each, length-each}
 use Rattle.cells.proofs.Runs.{range_of_lem}
 
 neither : (s t : Bool) → (s || t) ≡ false → (s ≡ false) × (t ≡ false)
@@ -42,8 +42,8 @@ module _ (size start width : ℕ) (sent whole : List ℕ)
   abbrev buffer : List ℕ
   buffer = take size whole
 
-  pub buffer-long : length buffer ≡ size
-  buffer-long =
+  pub buffer_long : length buffer ≡ size
+  buffer_long =
       let long : length whole ≡ width =
       ap length filling ∙ (length-each (loaded size start sent) (replicate width 255) ∙ length-replicate width 255) in
       length-take-le size whole (omega arith)
@@ -67,14 +67,14 @@ module _ (size start width : ℕ) (sent whole : List ℕ)
     placed : (k x : ℕ) → x < 256 → (b : Bool) → range page (page + size) k ≡ b
         → anded_in page buffer k x ≡ programmed size page start sent k x
     unfolding over
-    placed k x h false r = rw (buffer-long, r)
+    placed k x h false r = rw (buffer_long, r)
     placed k x h true r =
         let w : (page ≤ k) × (k < page + size) = range_of_lem page (page + size) k r in
-        rw (buffer-long, r) (aimed k x h (omega arith) (covered size start (length sent) (k - page)) refl)
+        rw (buffer_long, r) (aimed k x h (omega arith) (covered size start (length sent) (k - page)) refl)
 
     pub buffered : each (anded_in page buffer) xs ≡ each (programmed size page start sent) xs
     buffered =
-        each-alike (anded_in page buffer) (programmed size page start sent) xs
+        each_alike (anded_in page buffer) (programmed size page start sent) xs
         (λ k l. placed k (get_or xs k 0) (bytes k) (range page (page + size) k) refl)
 
 -- The data in two pieces: the second one replaces what the first one left.
@@ -86,11 +86,11 @@ last_split size start sent m (suc n) p x =
     rw (add-suc m n, add_assoc start m n, get_or-drop m sent n 0, last_split size start sent m n p x)
 
 -- what the buffer held does not matter where a data byte aims
-last-covered : (size start : ℕ) (sent : List ℕ) (n p x y : ℕ) → covered size start n p ≡ true
+last_covered : (size start : ℕ) (sent : List ℕ) (n p x y : ℕ) → covered size start n p ≡ true
     → last size start sent n p x ≡ last size start sent n p y
 unfolding last covered
-last-covered size start sent zero p x y e = absurd (false≢true e)
-last-covered size start sent (suc n) p x y e = by (aims size start n p) (last-covered size start sent n p x y) e
+last_covered size start sent zero p x y e = absurd (false≢true e)
+last_covered size start sent (suc n) p x y e = by (aims size start n p) (last_covered size start sent n p x y) e
   where
     by : (b : Bool) → (covered size start n p ≡ true → last size start sent n p x ≡ last size start sent n p y)
         → (b || covered size start n p) ≡ true
@@ -99,10 +99,10 @@ last-covered size start sent (suc n) p x y e = by (aims size start n p) (last-co
     by false ih c = ih c
 
 -- where the j-th data byte aims is covered
-pub covered-at : (size start n j : ℕ) → j < n → covered size start n ((start + j) % size) ≡ true
+pub covered_at : (size start n j : ℕ) → j < n → covered size start n ((start + j) % size) ≡ true
 unfolding covered
-covered-at size start zero j l = absurd (not-suc-le-zero l)
-covered-at size start (suc n) j l = by (ℕ_discrete j n) (covered-at size start n j)
+covered_at size start zero j l = absurd (not-suc-le-zero l)
+covered_at size start (suc n) j l = by (ℕ_discrete j n) (covered_at size start n j)
   where
     by : Dec (j ≡ n) → (j < n → covered size start n ((start + j) % size) ≡ true)
         → covered size start (suc n) ((start + j) % size) ≡ true
@@ -119,7 +119,7 @@ all_covered size start p l =
     add-mod-mod start (p + (size - s)) size ∙
     (sym (mod-add-mod start size (p + (size - s))) ∙
     (ap (λ (n : ℕ). n % size) (omega arith) ∙ (add-mod_right p size ∙ mod-eq_of_lt l))) in
-    rw e at (covered-at size start size j (mod-lt (p + (size - s)) (omega arith)))
+    rw e at (covered_at size start size j (mod-lt (p + (size - s)) (omega arith)))
 
 -- only the last data bytes count, as many as the page has offsets
 pub only_the_last : (size start : ℕ) (sent : List ℕ) (n p x : ℕ) → size ≤ n → p < size
@@ -128,5 +128,5 @@ only_the_last size start sent n p x h l =
     let e : n ≡ n - size + size = omega arith in
     ap (λ (m : ℕ). last size start sent m p x) e ∙
     (last_split size start sent (n - size) size p x ∙
-    last-covered size (start + (n - size)) (drop (n - size) sent) size p (last size start sent (n - size) p x) x
+    last_covered size (start + (n - size)) (drop (n - size) sent) size p (last size start sent (n - size) p x) x
     (all_covered size (start + (n - size)) p l))

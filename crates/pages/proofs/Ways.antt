@@ -12,10 +12,10 @@ use lib.Seq.{get_or-take, length-take-le, take_all}
 use Rattle.cells.specs.Each.{each}
 use Rattle.pages.specs.Page.{anded_in, programmed}
 use Rattle.cells.proofs.Places.{each_then, over_in, over_out}
-use Rattle.cells.proofs.Runs.{range_in, range_before, range-behind}
-use Rattle.pages.proofs.Programs.{covered-at}
-use Rattle.pages.proofs.Aims.{last_aimed, none-aims}
-use Rattle.pages.proofs.Pieces.{piece, piece-long, piece-at, anded_there, not_before, not_behind, none_left}
+use Rattle.cells.proofs.Runs.{range_in, range_before, range_behind}
+use Rattle.pages.proofs.Programs.{covered_at}
+use Rattle.pages.proofs.Aims.{last_aimed, none_aims}
+use Rattle.pages.proofs.Pieces.{piece, piece_long, piece_at, anded_there, not_before, not_behind, none_left}
 
 -- Data no longer than the page: as much as there is room for is ANDed in one run from `start` up to the page's end, and
 -- what is left from the page's beginning on.
@@ -30,8 +30,8 @@ module _ (size page start : ℕ) (sent : List ℕ) (room straight left : ℕ) (c
   run_long : length run ≡ straight
   run_long = length-take-le straight sent (omega arith)
 
-  rest-long : length rest ≡ left
-  rest-long = omega (arith, piece-long straight (length sent) sent (omega arith))
+  rest_long : length rest ≡ left
+  rest_long = omega (arith, piece_long straight (length sent) sent (omega arith))
 
   -- what the program does at a place of the page
   module _ (k x j : ℕ) (low : page ≤ k) (high : k < page + size) (near : j < size)
@@ -39,13 +39,13 @@ module _ (size page start : ℕ) (sent : List ℕ) (room straight left : ℕ) (c
     hit : j < length sent → programmed size page start sent k x ≡ bit_and x (get_or sent j 0)
     hit m =
         over_in _ _ k x
-        (rw (range_in page (page + size) k low high) (rw e at (covered-at size start (length sent) j m))) ∙
+        (rw (range_in page (page + size) k low high) (rw e at (covered_at size start (length sent) j m))) ∙
         ap (bit_and x) (last_aimed size start sent (length sent) j (k - page) 255 m (omega arith) e)
 
     missed : length sent ≤ j → programmed size page start sent k x ≡ x
     missed m =
         over_out _ _ k x
-        (rw (range_in page (page + size) k low high) (none-aims size start (length sent) j (k - page) m near e))
+        (rw (range_in page (page + size) k low high) (none_aims size start (length sent) j (k - page) m near e))
 
   -- and what the two runs do: at a place before the start, where what is left aims
   before : (k x : ℕ) → page ≤ k → k < page + start → Dec (k < page + left)
@@ -60,18 +60,18 @@ module _ (size page start : ℕ) (sent : List ℕ) (room straight left : ℕ) (c
 
       by : Dec (k < page + left) → anded_in page rest k x ≡ programmed size page start sent k x
       by (yes m) =
-          anded_there page rest k x (k - page) (omega arith) (omega (arith, rest-long)) ∙
-          (ap (bit_and x) (piece-at straight (length sent) sent (k - page) (omega arith)) ∙
+          anded_there page rest k x (k - page) (omega arith) (omega (arith, rest_long)) ∙
+          (ap (bit_and x) (piece_at straight (length sent) sent (k - page) (omega arith)) ∙
           (ap (λ (i : ℕ). bit_and x (get_or sent i 0)) (omega arith) ∙
           sym (hit k x j p (omega arith) (omega arith) e (omega arith))))
       by (no m) =
-          not_behind page rest k x (omega (arith, rest-long)) ∙
+          not_behind page rest k x (omega (arith, rest_long)) ∙
           sym (missed k x j p (omega arith) (omega arith) e (omega arith))
 
   -- from the start on, where the run goes
   onward : (k x : ℕ) → page + start ≤ k → k < page + size → Dec (k < page + start + straight)
       → anded_in page rest k (anded_in (page + start) run k x) ≡ programmed size page start sent k x
-  onward k x p q m = not_behind page rest k (anded_in (page + start) run k x) (omega (arith, rest-long)) ∙ by m
+  onward k x p q m = not_behind page rest k (anded_in (page + start) run k x) (omega (arith, rest_long)) ∙ by m
     where
       j : ℕ
       j = k - (page + start)
@@ -98,9 +98,9 @@ module _ (size page start : ℕ) (sent : List ℕ) (room straight left : ℕ) (c
   everywhere k x (no p) (yes q) m = before k x (omega arith) q (dec_lt k (page + left))
   everywhere k x (no p) (no q) (yes m) = onward k x (omega arith) m (dec_lt k (page + start + straight))
   everywhere k x (no p) (no q) (no m) =
-      not_behind page rest k (anded_in (page + start) run k x) (omega (arith, rest-long)) ∙
+      not_behind page rest k (anded_in (page + start) run k x) (omega (arith, rest_long)) ∙
       (not_behind (page + start) run k x (omega (arith, run_long)) ∙
-      sym (over_out _ _ k x (rw (range-behind page (page + size) k (omega arith)))))
+      sym (over_out _ _ k x (rw (range_behind page (page + size) k (omega arith)))))
 
   -- the two runs leave what the program leaves
   pub in_runs : (xs : List ℕ)
@@ -115,7 +115,7 @@ pub at_once : (size page start : ℕ) (sent xs : List ℕ) → start < size → 
 at_once size page start sent xs p q =
     let n : ℕ = length sent in
     let rest : List ℕ = piece n n sent in
-    let none : length rest ≡ 0 = omega (arith, piece-long n n sent (omega arith)) in
+    let none : length rest ≡ 0 = omega (arith, piece_long n n sent (omega arith)) in
     sym (none_left page rest (each (anded_in (page + start) sent) xs) none) ∙
     (ap (λ (run : List ℕ). each (anded_in page rest) (each (anded_in (page + start) run) xs))
     (sym (take_all n sent (omega arith))) ∙

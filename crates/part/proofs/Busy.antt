@@ -24,7 +24,7 @@ use Rattle.judge.specs.declared.Judged.{Judged}
 use Rattle.judge.specs.declared.Outcome.{Outcome}
 use Rattle.device.specs.Device.{awake, deep, ultra_deep}
 use Rattle.judge.specs.Judging.{ordered, carried, judged}
-use Rattle.judge.proofs.Leaves.{Heard, each-answer, full-duration, found_idle}
+use Rattle.judge.proofs.Leaves.{Heard, each_answer, full_duration, found_idle}
 use Rattle.calls.specs.declared.Lengths.{Lengths}
 use Rattle.calls.specs.Refusal.{bytes_for}
 use Rattle.part.specs.Words.{word_of}
@@ -58,15 +58,15 @@ module _ (d : Device) (s : Settings) (f : Facts) where
   other : is_reset command ≡ false → d.busy ≡ cond (awake d.mode && (is_reset command && true)) 0 d.busy
   other e = rw (e, and-false (awake d.mode))
 
-  deep-sleeps : (m : Mode) → deep m ≡ true → awake m ≡ false
-  deep-sleeps Awake e = none e
-  deep-sleeps Deep e = refl
-  deep-sleeps UltraDeep e = refl
+  deep_sleeps : (m : Mode) → deep m ≡ true → awake m ≡ false
+  deep_sleeps Awake e = none e
+  deep_sleeps Deep e = refl
+  deep_sleeps UltraDeep e = refl
 
-  ultra-sleeps : (m : Mode) → ultra_deep m ≡ true → awake m ≡ false
-  ultra-sleeps Awake e = none e
-  ultra-sleeps Deep e = refl
-  ultra-sleeps UltraDeep e = refl
+  ultra_sleeps : (m : Mode) → ultra_deep m ≡ true → awake m ≡ false
+  ultra_sleeps Awake e = none e
+  ultra_sleeps Deep e = refl
+  ultra_sleeps UltraDeep e = refl
 
   of_order : (order : Order) → command ≡ Orders order → Heard d f → Kept d f (ordered order d)
   of_order Enable e h = (none, λ n. other (ap is_reset e))
@@ -88,8 +88,8 @@ module _ (d : Device) (s : Settings) (f : Facts) where
 
   kept : Kept d f (judged d s f)
   kept =
-      each-answer d s f (Kept d f) (λ some. (none, λ n. uncontrolled)) (λ some. (none, λ n. uncontrolled))
-      (λ u. (none, λ n. asleep (ultra-sleeps d.mode u))) (λ e. (none, λ n. asleep (deep-sleeps d.mode e)))
+      each_answer d s f (Kept d f) (λ some. (none, λ n. uncontrolled)) (λ some. (none, λ n. uncontrolled))
+      (λ u. (none, λ n. asleep (ultra_sleeps d.mode u))) (λ e. (none, λ n. asleep (deep_sleeps d.mode e)))
       (λ source e. (none, λ n. uncontrolled)) of_order of_work
 
 is_begun_lem : (o : Outcome) → eqt (word_of o) "begun" ≡ true → o ≡ Outcome.Begun
@@ -97,9 +97,9 @@ is_begun_lem o e = begun_tells o (eqt→eq (word_of o) "begun" (subst T (sym e) 
 
 module _ (c : Call) (lengths : Lengths) where
   -- a frame begins an operation only if no busy tick was left at its first bit
-  pub begun-idle : (replied c lengths).outcome ≡ "begun" → c.device.busy ≤ c.signals.elapsed
+  pub begun_idle : (replied c lengths).outcome ≡ "begun" → c.device.busy ≤ c.signals.elapsed
   unfolding replied judged_of
-  begun-idle e = by (eqb (number_for c lengths) 0) e
+  begun_idle e = by (eqb (number_for c lengths) 0) e
     where
       by : (b : Bool) → (cond b (answered (judged_of c) (covered_by (judged_of c) c lengths)) (refused (number_for c lengths) c.device)).outcome ≡ "begun" → c.device.busy ≤ c.signals.elapsed
       by true e =
@@ -114,7 +114,7 @@ module _ (c : Call) (lengths : Lengths) where
   busy_is e = rw (sym (refusal_is c lengths) ∙ e) (by (eqt (word_of (judged_of c).outcome) "begun") refl)
     where
       by : (b : Bool) → eqt (word_of (judged_of c).outcome) "begun" ≡ b → (judged_of c).device.busy ≡ busy_after c (answered (judged_of c) (covered_by (judged_of c) c lengths))
-      by true w = rw w (full-duration (risen c) c.settings (facts_of c) (is_begun_lem (judged_of c).outcome w))
+      by true w = rw w (full_duration (risen c) c.settings (facts_of c) (is_begun_lem (judged_of c).outcome w))
       by false w =
           rw w
           ((kept (risen c) c.settings (facts_of c)).1 w ∙

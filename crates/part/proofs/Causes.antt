@@ -21,8 +21,8 @@ use Rattle.judge.specs.Causes.{cause_words, is_none, causes, IsFirst, cause_of}
 use Rattle.judge.specs.Judging.{ordered, carried, judged}
 use Rattle.judge.specs.Bare.{uncaused, bare}
 use Rattle.judge.proofs.Causes.{hindered}
-use Rattle.judge.proofs.Begins.{no_cause-ready}
-use Rattle.judge.proofs.Leaves.{each-answer}
+use Rattle.judge.proofs.Begins.{no_cause_ready}
+use Rattle.judge.proofs.Leaves.{each_answer}
 use Rattle.judge.proofs.Bare.{as_before}
 use Rattle.calls.proofs.Accepting.{accepted}
 use Rattle.part.specs.Words.{word_of, cause_in}
@@ -58,7 +58,7 @@ pub record Carries (d : Device) (f : Facts) (o : Outcome) : Type 0 where
 
 carries : (d : Device) (s : Settings) (f : Facts) → Carries d f (judged d s f).outcome
 carries d s f =
-    each-answer d s f (λ (j : Judged). Carries d f j.outcome)
+    each_answer d s f (λ (j : Judged). Carries d f j.outcome)
     (λ some. record { first = λ t. (refl, some); called_none = some_words (cause_of (row_of f.code) d f) some })
     (λ some. record { first = λ t. (refl, some); called_none = some_words (cause_of (row_of f.code) d f) some })
     (λ u. controlled) (λ e. controlled) (λ source e. unstopped Outcome.Read refl refl) (λ order e h. of_order order)
@@ -93,10 +93,10 @@ module _ (c : Call) (m : Lent) where
   unfolding judged_of
   carrying = carries (risen c) c.settings (facts_of c)
 
-  pub first-cause : (frame c m).reply.refusal ≡ 0 → is_stopped (frame c m).reply ≡ true
+  pub first_cause : (frame c m).reply.refusal ≡ 0 → is_stopped (frame c m).reply ≡ true
       → ((frame c m).reply.cause ≡ cause_words (cause_for c)) × IsFirst (holds_of c) causes (cause_for c)
   unfolding frame replied
-  first-cause e = rw (sym (refusal_is c (lengths_of c m)) ∙ e) (λ t.
+  first_cause e = rw (sym (refusal_is c (lengths_of c m)) ∙ e) (λ t.
       let told = carrying.first t in
       (ap cause_words told.0, hindered (row_of (facts_of c).code) (risen c) (facts_of c) told.1))
 
@@ -115,7 +115,7 @@ module _ (c : Call) (m : Lent) where
       ≡ (eqb (number_for c (lengths_of c m)) 0 && (is_none (cause_for c) && means_array (row_of (facts_of c).code).command))
   no_cause_exactly =
       ap (λ (b : Bool). eqb (number_for c (lengths_of c m)) 0 && b)
-      (sym (no_cause-ready (risen c) c.settings (facts_of c)))
+      (sym (no_cause_ready (risen c) c.settings (facts_of c)))
 
   pub nothing_else_moved : (frame c m).reply.refusal ≡ 0
       → uncaused (judged_of c) ≡ bare (risen c) c.settings (facts_of c)

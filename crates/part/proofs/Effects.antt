@@ -16,7 +16,7 @@ use Rattle.judge.specs.declared.Outcome.{Outcome}
 use Rattle.opcodes.specs.Kinds.{means_array}
 use Rattle.judge.specs.Begins.{changes_array, ready, lasts}
 use Rattle.judge.proofs.Begins.{exactly_when}
-use Rattle.judge.proofs.Leaves.{as_asked, begun_acts, full-duration}
+use Rattle.judge.proofs.Leaves.{as_asked, begun_acts, full_duration}
 use Rattle.part.specs.Words.{word_of}
 use Rattle.operations.specs.Operations.{cell_of, on_array}
 use Rattle.part.specs.Frame.{Call, Lent, lengths_of, number_for, risen, facts_of, judged_of, covered_by, answered, refused, replied, frame}
@@ -82,9 +82,9 @@ module _ (c : Call) (m : Lent) where
       by false e = absurd (true≢false (ap (λ (w : String). eqt w "nothing") e))
 
   -- what is begun, on whatever memory, takes its full duration from the rise on: neither the ticks elapsed nor the frame's come off it
-  pub begun-lasts : (frame c m).reply.outcome ≡ "begun" → (frame c m).reply.device.busy ≡ lasts (row_of (facts_of c).code).command c.settings (facts_of c)
+  pub begun_lasts : (frame c m).reply.outcome ≡ "begun" → (frame c m).reply.device.busy ≡ lasts (row_of (facts_of c).code).command c.settings (facts_of c)
   unfolding frame replied judged_of
-  begun-lasts e = by (eqb (number_for c (lengths_of c m)) 0) e
+  begun_lasts e = by (eqb (number_for c (lengths_of c m)) 0) e
     where
       lasts_for_lem : ℕ
       lasts_for_lem = lasts (row_of (facts_of c).code).command c.settings (facts_of c)
@@ -93,5 +93,5 @@ module _ (c : Call) (m : Lent) where
           → (cond b (answered (judged_of c) (covered_by (judged_of c) c (lengths_of c m)))
           (refused (number_for c (lengths_of c m)) c.device)).outcome ≡ "begun"
           → (cond b (answered (judged_of c) (covered_by (judged_of c) c (lengths_of c m))) (refused (number_for c (lengths_of c m)) c.device)).device.busy ≡ lasts_for_lem
-      by true e = full-duration (risen c) c.settings (facts_of c) (begun_tells (judged_of c).outcome e)
+      by true e = full_duration (risen c) c.settings (facts_of c) (begun_tells (judged_of c).outcome e)
       by false e = absurd (true≢false (ap (λ (w : String). eqt w "nothing") e))

@@ -6,8 +6,8 @@ use Rattle.calls.specs.declared.Lengths.{Lengths}
 use Rattle.part.specs.Frame.{Call, Lent, lengths_of, number_for, refused, replied, frame}
 use Rattle.part.specs.Promises.{Promises}
 use Rattle.part.proofs.Answers.{one_answer, answer_of, some_answer, refusal_is, not_accepted}
-use Rattle.part.proofs.Effects.{only_then, changed_then, then_always, begun_took_effect, begun-lasts}
-use Rattle.part.proofs.Causes.{no_cause_exactly, first-cause, none_exactly, nothing_else_moved}
+use Rattle.part.proofs.Effects.{only_then, changed_then, then_always, begun_took_effect, begun_lasts}
+use Rattle.part.proofs.Causes.{no_cause_exactly, first_cause, none_exactly, nothing_else_moved}
 use Rattle.part.proofs.Busy.{busy_is}
 use Rattle.part.proofs.Covered.{outside_stays, empty_exactly}
 use Rattle.part.proofs.Frozen.{takes_no_time}
@@ -29,16 +29,16 @@ promises =
       some_answer = λ c m. (answer_of c (lengths_of c m), (frame c m).lent, some_answer c m);
       refused_exactly = refused_exactly;
       refused_leaves = refused_leaves;
-      never_from-stored-bytes = λ c m n e. ap (replied c) e;
+      never_from_stored_bytes = λ c m n e. ap (replied c) e;
       only_then = only_then;
       changed_then = changed_then;
       then_always = then_always;
       begun_took_effect = begun_took_effect;
       no_cause_exactly = no_cause_exactly;
-      first-cause = first-cause;
+      first_cause = first_cause;
       none_exactly = none_exactly;
       nothing_else_moved = nothing_else_moved;
-      begun-lasts = begun-lasts;
+      begun_lasts = begun_lasts;
       busy_is = λ c m. busy_is c (lengths_of c m);
       outside_stays = outside_stays;
       empty_exactly = empty_exactly;

@@ -31,7 +31,7 @@ pub record Promises : Type 0 where
   pub refused_leaves : (c : Call) (m : Lent) → (frame c m).reply.refusal ≢ 0
       → frame c m ≡ record { reply = refused (frame c m).reply.refusal c.device; lent = m }
   -- What comes back is computed from the call and the lengths of what is lent, never from stored bytes.
-  pub never_from-stored-bytes : (c : Call) (m n : Lent) → lengths_of c m ≡ lengths_of c n → (frame c m).reply
+  pub never_from_stored_bytes : (c : Call) (m n : Lent) → lengths_of c m ≡ lengths_of c n → (frame c m).reply
       ≡ (frame c n).reply
   -- An array byte changes only if the call is accepted and its frame is a program or an erase, complete, on a boundary,
   -- write-enabled, and the part is awake, idle at the frame's first bit and unprotected.
@@ -51,7 +51,7 @@ pub record Promises : Type 0 where
       ≡ (eqb (number_for c (lengths_of c m)) 0 && (is_none (cause_for c) && means_array (row_of (facts_of c).code).command))
   -- An accepted call of which nothing comes, or which is aborted, has one cause: the first of the request's list that
   -- holds.
-  pub first-cause : (c : Call) (m : Lent) → (frame c m).reply.refusal ≡ 0 → is_stopped (frame c m).reply ≡ true
+  pub first_cause : (c : Call) (m : Lent) → (frame c m).reply.refusal ≡ 0 → is_stopped (frame c m).reply ≡ true
       → ((frame c m).reply.cause ≡ cause_words (cause_for c)) × IsFirst (holds_of c) causes (cause_for c)
   -- A refused call has none, nor has a read, a control or what is begun; every other has one.
   pub none_exactly : (c : Call) (m : Lent) → eqt (frame c m).reply.cause "none"
@@ -60,7 +60,7 @@ pub record Promises : Type 0 where
   pub nothing_else_moved : (c : Call) (m : Lent) → (frame c m).reply.refusal ≡ 0
       → uncaused (judged_of c) ≡ bare (risen c) c.settings (facts_of c)
   -- What is begun, on whatever memory, takes its full duration from the rise on.
-  pub begun-lasts : (c : Call) (m : Lent) → (frame c m).reply.outcome ≡ "begun" → (frame c m).reply.device.busy
+  pub begun_lasts : (c : Call) (m : Lent) → (frame c m).reply.outcome ≡ "begun" → (frame c m).reply.device.busy
       ≡ lasts_for c
   -- The busy ticks that an accepted call leaves: all of an operation that it began, none after a reset, and otherwise
   -- what its ticks left.

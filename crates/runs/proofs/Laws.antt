@@ -10,33 +10,33 @@ module _ {I S : Type 0} (next : I → S → S) where
   unfolding end
   one_end i is s = refl
 
-  pub one-gathered : {O : Type 0} (tell : I → S → List O) (i : I) (is : List I) (s : S)
+  pub one_gathered : {O : Type 0} (tell : I → S → List O) (i : I) (is : List I) (s : S)
       → gathered next tell (i ∷ is) s ≡ tell i s ++ gathered next tell is (next i s)
   unfolding gathered
-  one-gathered tell i is s = refl
+  one_gathered tell i is s = refl
 
   -- two lists joined: the second on what the first one left
-  pub end-joined : (is js : List I) (s : S) → end next (is ++ js) s ≡ end next js (end next is s)
+  pub end_joined : (is js : List I) (s : S) → end next (is ++ js) s ≡ end next js (end next is s)
   unfolding end
-  end-joined [] js s = refl
-  end-joined (i ∷ is) js s = end-joined is js (next i s)
+  end_joined [] js s = refl
+  end_joined (i ∷ is) js s = end_joined is js (next i s)
 
-  pub gathered-joined : {O : Type 0} (tell : I → S → List O) (is js : List I) (s : S)
+  pub gathered_joined : {O : Type 0} (tell : I → S → List O) (is js : List I) (s : S)
       → gathered next tell (is ++ js) s ≡ gathered next tell is s ++ gathered next tell js (end next is s)
   unfolding gathered end
-  gathered-joined tell [] js s = refl
-  gathered-joined tell (i ∷ is) js s = rw (gathered-joined tell is js (next i s)) (sym (append_assoc (tell i s) _ _))
+  gathered_joined tell [] js s = refl
+  gathered_joined tell (i ∷ is) js s = rw (gathered_joined tell is js (next i s)) (sym (append_assoc (tell i s) _ _))
 
   -- an input that leaves the state as it was may be left out, and two that leave the same state stand for each other
   pub left_out : (before after : List I) (i : I) (s : S) → next i (end next before s) ≡ end next before s
       → end next (before ++ i ∷ after) s ≡ end next (before ++ after) s
   unfolding end
-  left_out before after i s e = end-joined before (i ∷ after) s ∙ (ap (end next after) e ∙ sym (end-joined before after s))
+  left_out before after i s e = end_joined before (i ∷ after) s ∙ (ap (end next after) e ∙ sym (end_joined before after s))
 
   pub exchanged : (before after : List I) (i j : I) (s : S) → next i (end next before s) ≡ next j (end next before s)
       → end next (before ++ i ∷ after) s ≡ end next (before ++ j ∷ after) s
   unfolding end
-  exchanged before after i j s e = end-joined before (i ∷ after) s ∙ (ap (end next after) e ∙ sym (end-joined before (j ∷ after) s))
+  exchanged before after i j s e = end_joined before (i ∷ after) s ∙ (ap (end next after) e ∙ sym (end_joined before (j ∷ after) s))
 
   -- what each step keeps holds in the end
   pub kept : (P : S → Type 0) → ((i : I) (s : S) → P s → P (next i s)) → (is : List I) (s : S) → P s → P (end next is s)
@@ -48,13 +48,13 @@ module _ {I S : Type 0} (next : I → S → S) where
   pub end_flat : (iss : List (List I)) (s : S) → end (end next) iss s ≡ end next (flatten iss) s
   unfolding end flatten
   end_flat [] s = refl
-  end_flat (is ∷ iss) s = end_flat iss (end next is s) ∙ sym (end-joined is (flatten iss) s)
+  end_flat (is ∷ iss) s = end_flat iss (end next is s) ∙ sym (end_joined is (flatten iss) s)
 
   pub gathered_flat : {O : Type 0} (tell : I → S → List O) (iss : List (List I)) (s : S)
       → gathered (end next) (gathered next tell) iss s ≡ gathered next tell (flatten iss) s
   unfolding gathered flatten
   gathered_flat tell [] s = refl
-  gathered_flat tell (is ∷ iss) s = rw (gathered_flat tell iss (end next is s)) (sym (gathered-joined tell is (flatten iss) s))
+  gathered_flat tell (is ∷ iss) s = rw (gathered_flat tell iss (end next is s)) (sym (gathered_joined tell is (flatten iss) s))
 
   -- each of the things told, made into another
   pub gathered_mapped : {O P : Type 0} (f : O → P) (tell : I → S → List O) (is : List I) (s : S)
@@ -71,7 +71,7 @@ module _ {I S J T : Type 0} (next : I → S → S) (other : J → T → T) (view
   end_seen [] s = refl
   end_seen (i ∷ is) s =
       end_seen is (next i s) ∙
-      (ap (end other (gathered next tells is (next i s))) (step i s) ∙ sym (end-joined other (tells i s) (gathered next tells is (next i s)) (view s)))
+      (ap (end other (gathered next tells is (next i s))) (step i s) ∙ sym (end_joined other (tells i s) (gathered next tells is (next i s)) (view s)))
 
   -- and what the other one tells, if an input tells what those that it hands on do
   pub gathered_seen : {O : Type 0} (tell : I → S → List O) (also : J → T → List O)
@@ -81,47 +81,47 @@ module _ {I S J T : Type 0} (next : I → S → S) (other : J → T → T) (view
   gathered_seen tell also same [] s = refl
   gathered_seen {O = O} tell also same (i ∷ is) s =
       rw (same i s, gathered_seen tell also same is (next i s), step i s)
-      (sym (gathered-joined other also (tells i s) (gathered next tells is (next i s)) (view s)))
+      (sym (gathered_joined other also (tells i s) (gathered next tells is (next i s)) (view s)))
 
 -- the same with one input for each
 module _ {I S J T : Type 0} (next : I → S → S) (other : J → T → T) (view : S → T) (of : I → J)
     (step : (i : I) (s : S) → view (next i s) ≡ other (of i) (view s)) where
-  pub end-alike : (is : List I) (s : S) → view (end next is s) ≡ end other (map of is) (view s)
+  pub end_alike : (is : List I) (s : S) → view (end next is s) ≡ end other (map of is) (view s)
   unfolding end
-  end-alike [] s = refl
-  end-alike (i ∷ is) s = end-alike is (next i s) ∙ ap (end other (map of is)) (step i s)
+  end_alike [] s = refl
+  end_alike (i ∷ is) s = end_alike is (next i s) ∙ ap (end other (map of is)) (step i s)
 
-  pub gathered-alike : {O : Type 0} (tell : I → S → List O) (also : J → T → List O)
+  pub gathered_alike : {O : Type 0} (tell : I → S → List O) (also : J → T → List O)
       → ((i : I) (s : S) → tell i s ≡ also (of i) (view s))
       → (is : List I) (s : S) → gathered next tell is s ≡ gathered other also (map of is) (view s)
   unfolding gathered
-  gathered-alike tell also same [] s = refl
-  gathered-alike tell also same (i ∷ is) s = rw (same i s, gathered-alike tell also same is (next i s), step i s)
+  gathered_alike tell also same [] s = refl
+  gathered_alike tell also same (i ∷ is) s = rw (same i s, gathered_alike tell also same is (next i s), step i s)
 
   -- one thing each, through a view of it
-  pub outputs-alike : {O P : Type 0} (f : O → P) (out : I → S → O) (also : J → T → P) → ((i : I) (s : S) → f (out i s) ≡ also (of i) (view s))
+  pub outputs_alike : {O P : Type 0} (f : O → P) (out : I → S → O) (also : J → T → P) → ((i : I) (s : S) → f (out i s) ≡ also (of i) (view s))
       → (is : List I) (s : S) → map f (outputs next out is s) ≡ outputs other also (map of is) (view s)
-  outputs-alike {P = P} f out also same is s =
-      gathered_mapped next f (one out) is s ∙ gathered-alike (one (λ i s. f (out i s))) (one also) (λ i s. ap (λ (p : P). p ∷ []) (same i s)) is s
+  outputs_alike {P = P} f out also same is s =
+      gathered_mapped next f (one out) is s ∙ gathered_alike (one (λ i s. f (out i s))) (one also) (λ i s. ap (λ (p : P). p ∷ []) (same i s)) is s
 
 -- the same with the same inputs: a state with more in it, of which the rest is forgotten
 module _ {I S T : Type 0} (next : I → S → S) (other : I → T → T) (view : S → T) (step : (i : I) (s : S) → view (next i s) ≡ other i (view s)) where
   pub end_forgets : (is : List I) (s : S) → view (end next is s) ≡ end other is (view s)
-  end_forgets is s = rw map-id at (end-alike next other view (λ i. i) step is s)
+  end_forgets is s = rw map-id at (end_alike next other view (λ i. i) step is s)
 
   pub outputs_forgets : {O P : Type 0} (f : O → P) (out : I → S → O) (also : I → T → P) → ((i : I) (s : S) → f (out i s) ≡ also i (view s))
       → (is : List I) (s : S) → map f (outputs next out is s) ≡ outputs other also is (view s)
-  outputs_forgets f out also same is s = rw map-id at (outputs-alike next other view (λ i. i) step f out also same is s)
+  outputs_forgets f out also same is s = rw map-id at (outputs_alike next other view (λ i. i) step f out also same is s)
 
 -- A run of the code is one call and a run on what it left;
 module _ {I S O M : Type 0} (result : I → S → O) (left : O → S → S) (made : M → O) where
   abbrev next : I → S → S
   next i s = left (result i s) s
 
-  pub one-ran : (i : I) (is : List I) (s u : S) (m : M) (ms : List M) → Ran result left made (i ∷ is) s (m ∷ ms) u
+  pub one_ran : (i : I) (is : List I) (s u : S) (m : M) (ms : List M) → Ran result left made (i ∷ is) s (m ∷ ms) u
       → (made m ≡ result i s) × Ran result left made is (left (made m) s) ms u
   unfolding Ran
-  one-ran i is s u m ms r = r
+  one_ran i is s u m ms r = r
 
   -- it is the run;
   pub as_the_run : (is : List I) (s u : S) (ms : List M) → Ran result left made is s ms u → (map made ms ≡ outputs next result is s) × (u ≡ end next is s)

@@ -10,8 +10,8 @@ use lib.ListN.{length, get_or, replicate, length-replicate}
 use lib.Seq.{ext_get_or}
 use Rattle.cells.specs.Each.{Cell, each, stored}
 use Rattle.cells.specs.Range.{range}
-use Rattle.cells.proofs.Places.{length-each, get_or-each, is_each, each_same, each-alike, over_in, over_out}
-use Rattle.cells.proofs.Runs.{range_in, range-behind}
+use Rattle.cells.proofs.Places.{length-each, get_or-each, is_each, each_same, each_alike, over_in, over_out}
+use Rattle.cells.proofs.Runs.{range_in, range_behind}
 use Rattle.series.specs.Series.{lent_of, returned}
 
 pub length-lent : (n : ℕ) (xs : List ℕ) (behind : ℕ → ℕ) → length (lent_of n xs behind) ≡ n
@@ -42,9 +42,9 @@ returned_all after xs e =
     sym (is_each (stored (range 0 (length after)) (λ k. get_or after k 0)) xs after e (λ k l. sym (came_back after k (get_or xs k 0) (omega arith))))
 
 -- what is done to the lent bytes, and to nothing behind them, is done to the memory
-pub returned-each : (f : Cell) (n : ℕ) (xs : List ℕ) (behind : ℕ → ℕ) → ((k x : ℕ) → n ≤ k → f k x ≡ x)
+pub returned_each : (f : Cell) (n : ℕ) (xs : List ℕ) (behind : ℕ → ℕ) → ((k x : ℕ) → n ≤ k → f k x ≡ x)
     → returned (each f (lent_of n xs behind)) xs ≡ each f xs
-returned-each f n xs behind inside = each-alike (stored (range 0 (length after)) (λ k. get_or after k 0)) f xs (λ k l. by k l (dec_lt k n))
+returned_each f n xs behind inside = each_alike (stored (range 0 (length after)) (λ k. get_or after k 0)) f xs (λ k l. by k l (dec_lt k n))
   where
     after : List ℕ
     after = each f (lent_of n xs behind)
@@ -58,11 +58,11 @@ returned-each f n xs behind inside = each-alike (stored (range 0 (length after))
         (get_or-each f (lent_of n xs behind) k 0 (omega (arith, length-lent n xs behind)) ∙ ap (f k) (get_or-lent n xs behind k l m))
     by k m (no l) =
         let past : n ≤ k = omega arith in
-        over_out (range 0 (length after)) (λ k x. get_or after k 0) k (get_or xs k 0) (range-behind 0 (length after) k (omega (arith, long))) ∙
+        over_out (range 0 (length after)) (λ k x. get_or after k 0) k (get_or xs k 0) (range_behind 0 (length after) k (omega (arith, long))) ∙
         sym (inside k (get_or xs k 0) past)
 
 -- what is left as it was lent leaves the memory as it was
 pub returned_same : (n : ℕ) (xs : List ℕ) (behind : ℕ → ℕ) → returned (lent_of n xs behind) xs ≡ xs
 returned_same n xs behind =
     ap (λ (after : List ℕ). returned after xs) (each_same (lent_of n xs behind)) ∙
-    (returned-each (λ k x. x) n xs behind (λ k x l. refl) ∙ sym (each_same xs))
+    (returned_each (λ k x. x) n xs behind (λ k x l. refl) ∙ sym (each_same xs))

@@ -22,8 +22,8 @@ use Rattle.series.specs.Turns.{call_of, lengths_of, reply_to, effect_of, done_of
 use Rattle.series.specs.Series.{Step, State, returned, lent_to, result_of, left}
 use Rattle.operations.specs.Bytes.{applied}
 use Rattle.series.specs.Promises.{as_refused}
-use Rattle.series.proofs.Lending.{length-lent, returned-each, returned_same}
-use Rattle.series.proofs.Turns.{refusal_is, refused-reply, accepted-turn, effect_accepted}
+use Rattle.series.proofs.Lending.{length-lent, returned_each, returned_same}
+use Rattle.series.proofs.Turns.{refusal_is, refused_reply, accepted_turn, effect_accepted}
 
 module _ (s : Step) (t : State) where
   abbrev c : Call
@@ -50,14 +50,14 @@ module _ (s : Step) (t : State) where
       inside : takes_effect c (lengths_of s.turn) ≡ true → (k x : ℕ) → s.turn.array ≤ k → cell_of (operation_of c (lengths_of s.turn)) k x ≡ x
       inside e =
           operation_inside (asks_for (row_of (facts_of c).code).command) s.turn.array s.turn.input
-          (accepted-turn s.turn t.device (effect_accepted s.turn t.device e)).array
+          (accepted_turn s.turn t.device (effect_accepted s.turn t.device e)).array
 
       by : (b : Bool) → takes_effect c (lengths_of s.turn) ≡ b
           → returned (frame c m).lent.array t.array ≡ applied (cond b (operation_of c (lengths_of s.turn) ∷ []) []) t.array
       by true e =
           ap (λ (after : List ℕ). returned after t.array)
           ((then_always c m (ap (takes_effect c) same_lengths ∙ e)).0 ∙ ap (λ (o : Operation). each (cell_of o) m.array) (ap (operation_of c) same_lengths)) ∙
-          returned-each (cell_of (operation_of c (lengths_of s.turn))) s.turn.array t.array s.behind.array (inside e)
+          returned_each (cell_of (operation_of c (lengths_of s.turn))) s.turn.array t.array s.behind.array (inside e)
       by false e =
           ap (λ (after : List ℕ). returned after t.array) (only_then c m (ap (takes_effect c) same_lengths ∙ e)) ∙ returned_same s.turn.array t.array s.behind.array
 
@@ -71,9 +71,9 @@ module _ (s : Step) (t : State) where
           → returned (cond b (part.lent_after c m) m).array t.array
           ≡ applied (cond b (on_array (judged_of c).action s.turn.array s.turn.input ∷ []) []) t.array
       by true z =
-          let listed = (accepted-turn s.turn t.device (refusal_is s.turn t.device ∙ z refl)).array in
+          let listed = (accepted_turn s.turn t.device (refusal_is s.turn t.device ∙ z refl)).array in
           rw (length-lent s.turn.array t.array s.behind.array)
-          (returned-each (cell_of (on_array (judged_of c).action s.turn.array s.turn.input)) s.turn.array
+          (returned_each (cell_of (on_array (judged_of c).action s.turn.array s.turn.input)) s.turn.array
           t.array s.behind.array
           (operation_inside (judged_of c).action s.turn.array s.turn.input listed))
       by false z = returned_same s.turn.array t.array s.behind.array
@@ -87,18 +87,18 @@ module _ (s : Step) (t : State) where
           → returned (cond b (part.lent_after c m) m).register t.register
           ≡ applied (cond b (on_register (judged_of c).action s.turn.input ∷ []) []) t.register
       by true z =
-          let long : s.turn.register ≡ 128 = (accepted-turn s.turn t.device (refusal_is s.turn t.device ∙ z refl)).register in
-          returned-each (cell_of (on_register (judged_of c).action s.turn.input)) s.turn.register t.register s.behind.register
+          let long : s.turn.register ≡ 128 = (accepted_turn s.turn t.device (refusal_is s.turn t.device ∙ z refl)).register in
+          returned_each (cell_of (on_register (judged_of c).action s.turn.input)) s.turn.register t.register s.behind.register
           (λ k x l. once_inside (judged_of c).action s.turn.input k x (omega arith))
       by false z = returned_same s.turn.register t.register s.behind.register
 
   -- a refused step answers with its number and leaves all as it was
-  pub refused-result : (reply_to s.turn t.device).refusal ≢ 0 → result_of s t ≡ as_refused s t
+  pub refused_result : (reply_to s.turn t.device).refusal ≢ 0 → result_of s t ≡ as_refused s t
   unfolding frame
-  refused-result n =
+  refused_result n =
       rw (same_lengths, ne_eqb (number_for c (lengths_of s.turn)) 0 (λ e. n (refusal_is s.turn t.device ∙ e)))
-      (ap (λ (r : part.Reply). record { reply = r; lent = m }) (refused-reply s.turn t.device n))
+      (ap (λ (r : part.Reply). record { reply = r; lent = m }) (refused_reply s.turn t.device n))
 
-  pub refused-left : (reply_to s.turn t.device).refusal ≢ 0 → left (result_of s t) t ≡ t
-  refused-left n =
-      rw (refused-result n) (rw (returned_same s.turn.array t.array s.behind.array, returned_same s.turn.register t.register s.behind.register))
+  pub refused_left : (reply_to s.turn t.device).refusal ≢ 0 → left (result_of s t) t ≡ t
+  refused_left n =
+      rw (refused_result n) (rw (returned_same s.turn.array t.array s.behind.array, returned_same s.turn.register t.register s.behind.register))

@@ -32,15 +32,15 @@ use Rattle.series.specs.Turns.{Turn, call_of, lengths_of, reply_to, effect_of, o
 use Rattle.operations.specs.Bytes.{works, all_work}
 
 -- what an opcode for the array asks for is a program or an erase
-asked-works : (c : Command) (size : ℕ) (input : List ℕ) → means_array c ≡ true → works (on_array (asks_for c) size input) ≡ true
-asked-works Unlisted size input e = absurd (false≢true e)
-asked-works (Reads source) size input e = absurd (false≢true e)
-asked-works (Orders order) size input e = absurd (false≢true e)
-asked-works (Works Work.Program) size input e = refl
-asked-works (Works (Work.Erase region)) size input e = refl
-asked-works (Works Work.Otp) size input e = absurd (false≢true e)
-asked-works (Works Work.WriteStatus) size input e = absurd (false≢true e)
-asked-works (Works Work.WriteStatusTwo) size input e = absurd (false≢true e)
+asked_works : (c : Command) (size : ℕ) (input : List ℕ) → means_array c ≡ true → works (on_array (asks_for c) size input) ≡ true
+asked_works Unlisted size input e = absurd (false≢true e)
+asked_works (Reads source) size input e = absurd (false≢true e)
+asked_works (Orders order) size input e = absurd (false≢true e)
+asked_works (Works Work.Program) size input e = refl
+asked_works (Works (Work.Erase region)) size input e = refl
+asked_works (Works Work.Otp) size input e = absurd (false≢true e)
+asked_works (Works Work.WriteStatus) size input e = absurd (false≢true e)
+asked_works (Works Work.WriteStatusTwo) size input e = absurd (false≢true e)
 
 module _ (t : Turn) (d : Device) where
   abbrev number : ℕ
@@ -54,21 +54,21 @@ module _ (t : Turn) (d : Device) where
   untrue = answers.not_accepted (call_of t d) (lengths_of t)
 
   -- a refused turn hands the record back as it came, and no operation takes effect
-  pub refused-reply : (reply_to t d).refusal ≢ 0 → reply_to t d ≡ refused (reply_to t d).refusal d
+  pub refused_reply : (reply_to t d).refusal ≢ 0 → reply_to t d ≡ refused (reply_to t d).refusal d
   unfolding replied
-  refused-reply n = rw (refusal_is, untrue n)
+  refused_reply n = rw (refusal_is, untrue n)
 
   pub refused_effect : (reply_to t d).refusal ≢ 0 → effect_of t d ≡ []
   refused_effect n = rw (untrue n)
 
   -- an accepted one is judged, and what acceptance tells is known
-  pub accepted-reply : (reply_to t d).refusal ≡ 0 → reply_to t d ≡ answered (judged_of (call_of t d)) (covered_by (judged_of (call_of t d)) (call_of t d) (lengths_of t))
+  pub accepted_reply : (reply_to t d).refusal ≡ 0 → reply_to t d ≡ answered (judged_of (call_of t d)) (covered_by (judged_of (call_of t d)) (call_of t d) (lengths_of t))
   unfolding replied
-  accepted-reply e = rw (sym refusal_is ∙ e)
+  accepted_reply e = rw (sym refusal_is ∙ e)
 
-  pub accepted-turn : (reply_to t d).refusal ≡ 0 → Accepting d t.settings t.signals (lengths_of t)
+  pub accepted_turn : (reply_to t d).refusal ≡ 0 → Accepting d t.settings t.signals (lengths_of t)
   unfolding number_for
-  accepted-turn e = accepted d t.settings t.signals (lengths_of t) (sym refusal_is ∙ e)
+  accepted_turn e = accepted d t.settings t.signals (lengths_of t) (sym refusal_is ∙ e)
 
   -- an operation takes effect in an accepted turn only
   pub effect_accepted : takes_effect (call_of t d) (lengths_of t) ≡ true → (reply_to t d).refusal ≡ 0
@@ -91,7 +91,7 @@ module _ (t : Turn) (d : Device) where
           ((and-eq-true_iff (means_array (row_of f.code).command) _).0 idle).0
 
       by : (b : Bool) → takes_effect (call_of t d) (lengths_of t) ≡ b → all_work (cond b (operation_of (call_of t d) (lengths_of t) ∷ []) []) ≡ true
-      by true e = rw (asked-works (row_of f.code).command t.array t.input (means e))
+      by true e = rw (asked_works (row_of f.code).command t.array t.input (means e))
       by false e = refl
 
   -- which is reported as begun
@@ -108,7 +108,7 @@ module _ (t : Turn) (d : Device) where
           ap word_of (as_asked (risen c) t.settings (facts_of c) (exactly_when (risen c) t.settings (facts_of c) ∙ readied)).1
 
       by : (b : Bool) → takes_effect c (lengths_of t) ≡ b → cond b (operation_of c (lengths_of t) ∷ []) [] ≢ [] → (reply_to t d).outcome ≡ "begun"
-      by true e n = ap (λ (r : Reply). r.outcome) (accepted-reply (effect_accepted e)) ∙ begun e
+      by true e n = ap (λ (r : Reply). r.outcome) (accepted_reply (effect_accepted e)) ∙ begun e
       by false e n = absurd (n refl)
 
   -- a turn returns a record that is accepted, if it was given one
@@ -122,21 +122,21 @@ module _ (t : Turn) (d : Device) where
           (stays_idle (timed (call_of t d)) _)
 
       by : Dec ((reply_to t d).refusal ≡ 0) → unsound (reply_to t d).device ≡ false
-      by (yes e) = rw (accepted-reply e) (judging (accepted-turn e))
-      by (no n) = rw (refused-reply n) u
+      by (yes e) = rw (accepted_reply e) (judging (accepted_turn e))
+      by (no n) = rw (refused_reply n) u
 
 -- and so does a series
 pub sound_series : (ts : List Turn) (d : Device) → unsound d ≡ false → unsound (last_record ts d) ≡ false
 sound_series = kept onward (λ (d : Device). unsound d ≡ false) sound_turn
 
-works-joined : (os ps : List Operation) → all_work os ≡ true → all_work ps ≡ true → all_work (os ++ ps) ≡ true
+works_joined : (os ps : List Operation) → all_work os ≡ true → all_work ps ≡ true → all_work (os ++ ps) ≡ true
 unfolding all_work
-works-joined [] ps e f = f
-works-joined (o ∷ os) ps e f =
+works_joined [] ps e f = f
+works_joined (o ∷ os) ps e f =
     let w = (and-eq-true_iff (works o) (all_work os)).0 e in
-    rw w.0 (works-joined os ps w.1 f)
+    rw w.0 (works_joined os ps w.1 f)
 
-pub each-works : (ts : List Turn) (d : Device) → all_work (operations ts d) ≡ true
+pub each_works : (ts : List Turn) (d : Device) → all_work (operations ts d) ≡ true
 unfolding run.gathered all_work
-each-works [] d = refl
-each-works (t ∷ ts) d = works-joined (effect_of t d) (operations ts (reply_to t d).device) (effect_works t d) (each-works ts (reply_to t d).device)
+each_works [] d = refl
+each_works (t ∷ ts) d = works_joined (effect_of t d) (operations ts (reply_to t d).device) (effect_works t d) (each_works ts (reply_to t d).device)

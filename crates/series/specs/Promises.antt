@@ -41,11 +41,11 @@ pub record Promises : Type 0 where
       → c ≡ call t.device s.turn.settings s.turn.input s.turn.signals → Ran (s ∷ ss) t (a ∷ rest) u
       → Meets c (lent_to s t) a.answer a.lent × Ran ss (left (made_of a) t) rest u
   -- A call that is lent its memories whole is lent what they hold,
-  pub lent-whole : (s : Step) (t : State) → s.turn.array ≡ length t.array → s.turn.register
+  pub lent_whole : (s : Step) (t : State) → s.turn.array ≡ length t.array → s.turn.register
       ≡ length t.register
       → s.turn.output ≡ length s.buffer → lent_to s t ≡ lent t.array t.register s.buffer
   -- and they hold afterwards what it left, with the record that it returned.
-  pub left-whole : (r : Result) (t : State) → length r.lent.array ≡ length t.array → length r.lent.register
+  pub left_whole : (r : Result) (t : State) → length r.lent.array ≡ length t.array → length r.lent.register
       ≡ length t.register
       → left r t ≡ record { device = r.reply.device; array = r.lent.array; register = r.lent.register }
   -- What the code returns and leaves is what the series says, call by call, and so are its last record, array and
@@ -60,19 +60,19 @@ pub record Promises : Type 0 where
       × ((end ss t).device ≡ last_record (turns_of ss) t.device)
   -- so two series with the same turns and first record answer alike and carry out the same operations, whatever their
   -- memories hold.
-  pub never_from-stored-bytes : (ss also : List Step) (t u : State) → turns_of ss ≡ turns_of also → t.device ≡ u.device
+  pub never_from_stored_bytes : (ss also : List Step) (t u : State) → turns_of ss ≡ turns_of also → t.device ≡ u.device
       → (map (λ (r : Result). r.reply) (results ss t) ≡ map (λ (r : Result). r.reply) (results also u))
       × ((end ss t).device ≡ (end also u).device)
       × (effects ss t ≡ effects also u)
   -- What takes effect is a program or an erase, and is reported as begun;
-  pub each-works : (ts : List Turn) (d : Device) → all_work (operations ts d) ≡ true
-  pub each-reported : (t : Turn) (d : Device) → operations (t ∷ []) d ≢ []
+  pub each_works : (ts : List Turn) (d : Device) → all_work (operations ts d) ≡ true
+  pub each_reported : (t : Turn) (d : Device) → operations (t ∷ []) d ≢ []
       → map (λ (r : Reply). r.outcome) (replies (t ∷ []) d) ≡ "begun" ∷ []
   -- the array after the series is the array before it with the operations that took effect carried out in order.
   pub as_carried_out : (ss : List Step) (t : State) → (end ss t).array ≡ applied (effects ss t) t.array
   -- Each byte afterwards is the AND of all bytes programmed at it since the last erase that covered it, starting from
   -- FFh, or from its first content if none covered it.
-  pub and_since_the_last-erase : (ss : List Step) (t : State) (k : ℕ) → k < length t.array
+  pub and_since_the_last_erase : (ss : List Step) (t : State) (k : ℕ) → k < length t.array
       → get_or (end ss t).array k 0
       ≡ and_all (start_at (effects ss t) k (get_or t.array k 0)) (bytes_at (since (effects ss t) k) k)
   -- Two programs with no erase between them, so with none or with programs only, may change places.

@@ -8,16 +8,16 @@ use lib.ListN.{get_or}
 use Rattle.settings.specs.Settings.{longest, any_unfair}
 
 -- none is longer than an operation may be
-pub none-longer : (ts : List ℕ) (k : ℕ) → any_unfair ts ≡ false → ltb longest (get_or ts k 0) ≡ false
+pub none_longer : (ts : List ℕ) (k : ℕ) → any_unfair ts ≡ false → ltb longest (get_or ts k 0) ≡ false
 unfolding any_unfair
-none-longer [] k e = refl
-none-longer (t ∷ ts) zero e = by (eqb t 0) (ltb longest t) e
+none_longer [] k e = refl
+none_longer (t ∷ ts) zero e = by (eqb t 0) (ltb longest t) e
   where
     by : (b c : Bool) → (b || c || any_unfair ts) ≡ false → c ≡ false
     by true c e = absurd (true≢false e)
     by false true e = absurd (true≢false e)
     by false false e = refl
-none-longer (t ∷ ts) (suc k) e = none-longer ts k (by (eqb t 0) (ltb longest t) e)
+none_longer (t ∷ ts) (suc k) e = none_longer ts k (by (eqb t 0) (ltb longest t) e)
   where
     by : (b c : Bool) → (b || c || any_unfair ts) ≡ false → any_unfair ts ≡ false
     by true c e = absurd (true≢false e)

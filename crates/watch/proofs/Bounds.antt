@@ -14,11 +14,11 @@ use Rattle.ledger.specs.Ledger.{Ledger, limit, above_before, any_above}
 use Rattle.watch.specs.Watch.{top_before, top, Bounded, watched}
 
 -- each word is at most the largest
-pub no_word-above : (n k : ℕ) (totals numbers : List ℕ) → k < n
+pub no_word_above : (n k : ℕ) (totals numbers : List ℕ) → k < n
     → (get_or totals k 0 ≤ top_before n totals numbers) × (get_or numbers k 0 ≤ top_before n totals numbers)
 unfolding top_before
-no_word-above zero k totals numbers l = absurd (not-suc-le-zero l)
-no_word-above (suc n) k totals numbers l = by (ℕ_discrete k n) (no_word-above n k totals numbers)
+no_word_above zero k totals numbers l = absurd (not-suc-le-zero l)
+no_word_above (suc n) k totals numbers l = by (ℕ_discrete k n) (no_word_above n k totals numbers)
   where
     most : ℕ
     most = top_before n totals numbers
@@ -32,13 +32,13 @@ no_word-above (suc n) k totals numbers l = by (ℕ_discrete k n) (no_word-above 
     by (no e) earlier = let before = earlier (omega arith) in (omega (arith, before.0), omega (arith, before.1))
 
 -- and the largest is at most what no word is above
-pub top-most : (n bound : ℕ) (totals numbers : List ℕ)
+pub top_most : (n bound : ℕ) (totals numbers : List ℕ)
     → ((k : ℕ) → k < n → (get_or totals k 0 ≤ bound) × (get_or numbers k 0 ≤ bound)) → top_before n totals numbers ≤ bound
 unfolding top_before
-top-most zero bound totals numbers low = omega arith
-top-most (suc n) bound totals numbers low =
+top_most zero bound totals numbers low = omega arith
+top_most (suc n) bound totals numbers low =
     let here = low n (le_refl (suc n)) in
-    let before : top_before n totals numbers ≤ bound = top-most n bound totals numbers (λ k l. low k (omega arith)) in
+    let before : top_before n totals numbers ≤ bound = top_most n bound totals numbers (λ k l. low k (omega arith)) in
     omega (arith, here.0, here.1)
 
 -- the largest word is above the limit exactly if a word is

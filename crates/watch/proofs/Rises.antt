@@ -14,7 +14,7 @@ use Rattle.calls.specs.declared.Signals.{Signals}
 use Rattle.part.specs.Frame.{Reply}
 use Rattle.ledger.specs.Ledger.{Ledger, is_account, at, came_off, turned, charged, booked}
 use Rattle.watch.specs.Watch.{top_before, top, Bounded}
-use Rattle.watch.proofs.Bounds.{no_word-above, top-most}
+use Rattle.watch.proofs.Bounds.{no_word_above, top_most}
 
 -- one word changes, and none is above the bound
 set-low : (table : List ℕ) (place k v bound : ℕ) → get_or table k 0 ≤ bound → v ≤ bound → get_or (set table place v) k 0 ≤ bound
@@ -48,11 +48,11 @@ rises bound busy signals r account l low short = by (eqb r.refusal 0) refl
   where
     fresh : (k : ℕ) → k < 256 → (get_or l.totals k 0 ≤ bound) × (get_or l.numbers k 0 ≤ bound)
     fresh k m =
-        let words = no_word-above 256 k l.totals l.numbers m in (le_trans words.0 low, le_trans words.1 low)
+        let words = no_word_above 256 k l.totals l.numbers m in (le_trans words.0 low, le_trans words.1 low)
 
     after : (ticks : ℕ) → ticks ≤ 60000000 → (begun idle : Bool)
         → Bounded (bound + 60000000) (turned begun idle account (charged ticks l))
-    after ticks few begun idle = top-most 256 (bound + 60000000) _ _ (λ k m. words begun idle k m)
+    after ticks few begun idle = top_most 256 (bound + 60000000) _ _ (λ k m. words begun idle k m)
       where
         paid : (k : ℕ) → k < 256 → get_or (at l.running.account (λ total. total + ticks) l.totals) k 0 ≤ bound + 60000000
         paid k m = at_low l.running.account k bound 60000000 (λ total. total + ticks) l.totals (λ x. omega (arith, few)) (λ j n. (fresh j n).0) m

@@ -21,7 +21,7 @@ use Rattle.series.specs.Turns.{replies}
 use Rattle.series.specs.Series.{Step, State, Made, turns_of, results, end, Ran}
 use Rattle.operations.specs.Bytes.{applied, through, erased_in, since, bytes_at}
 use Rattle.series.specs.Promises.{effects}
-use Rattle.operations.proofs.Applied.{applied-each}
+use Rattle.operations.proofs.Applied.{applied_each}
 use Rattle.series.proofs.Promises.{promises}
 use Rattle.worked.specs.Example.{Example, ShutOut, steps, begins}
 use Rattle.worked.proofs.Told.{length-blank, get_or-blank}
@@ -33,7 +33,7 @@ told field = sym (map-map field (λ (r : Result). r.reply) (results steps begins
 -- the byte at a place after a list of operations
 byte_after : (os : List Operation) (k : ℕ) → k < 131072 → get_or (applied os begins.array) k 0 ≡ through os k 0xF7
 byte_after os k l =
-    ap (λ (xs : List ℕ). get_or xs k 0) (applied-each os begins.array) ∙
+    ap (λ (xs : List ℕ). get_or xs k 0) (applied_each os begins.array) ∙
     (get_or-each (through os) begins.array k 0 (omega (arith, length-blank 131072 0xF7)) ∙ ap (through os k) (get_or-blank 131072 0xF7 k l))
 
 -- and after a series

@@ -33,9 +33,9 @@ pub record Whole (size other : ℕ) (s : Step) : Type 0 where
   pub output : s.turn.output ≡ length s.buffer
 
 -- what the step leaves
-left-told : (s : Step) (t : Scene) → left (result_of s (state_of t)) (state_of t) ≡ state_of (next s t)
+left_told : (s : Step) (t : Scene) → left (result_of s (state_of t)) (state_of t) ≡ state_of (next s t)
 unfolding next
-left-told s t =
+left_told s t =
     rw (
       reply_is s (state_of t),
       done_is s (state_of t),
@@ -50,20 +50,20 @@ module _ (s : Step) (t : Scene) (has : 0 < t.array.content.size) (holds : 0 < t.
   abbrev c : Call
   c = call_of s.turn t.device
 
-  lent-told : lent_to s (state_of t) ≡ lent (memory_of t.array) (memory_of t.register) s.buffer
-  lent-told =
+  lent_told : lent_to s (state_of t) ≡ lent (memory_of t.array) (memory_of t.register) s.buffer
+  lent_told =
       rw (
         lent_all s.turn.array (memory_of t.array) s.behind.array (whole.array ∙ sym (length-told t.array)),
         lent_all s.turn.register (memory_of t.register) s.behind.register (whole.register ∙ sym (length-told t.register)),
         lent_all s.turn.output s.buffer s.behind.output whole.output,
       )
 
-  output-told : (result_of s (state_of t)).lent.output
+  output_told : (result_of s (state_of t)).lent.output
       ≡ cond (eqb (number_for c (lengths_of s.turn)) 0) (written c (told_store t.array) (told_store t.register) s.buffer) s.buffer
   unfolding frame
-  output-told =
+  output_told =
       rw (same_lengths s (state_of t))
-      (ap (λ (m : Lent). (cond (eqb (number_for c (lengths_of s.turn)) 0) (part.lent_after c m) m).output) lent-told ∙
+      (ap (λ (m : Lent). (cond (eqb (number_for c (lengths_of s.turn)) 0) (part.lent_after c m) m).output) lent_told ∙
       by (eqb (number_for c (lengths_of s.turn)) 0))
     where
       by : (b : Bool)
@@ -72,9 +72,9 @@ module _ (s : Step) (t : Scene) (has : 0 < t.array.content.size) (holds : 0 < t.
       by true = read_told t.array t.register has holds (judged_of c) (stands_at c) c.signals.wp c.signals.bits c.input s.buffer
       by false = refl
 
-  came-told : came_of (result_of s (state_of t)) ≡ came_told s t
+  came_told_lem : came_of (result_of s (state_of t)) ≡ came_told s t
   unfolding came_told
-  came-told = rw (reply_is s (state_of t), output-told)
+  came_told_lem = rw (reply_is s (state_of t), output_told)
 
 -- every step of a list lends its memories whole
 unfoldable pub AllWhole : ℕ → ℕ → List Step → Type 0
@@ -87,15 +87,15 @@ pub all_told_lem : (ss : List Step) (t : Scene) → 0 < t.array.content.size →
 unfolding run.gathered next AllWhole
 all_told_lem [] t has holds whole = refl
 all_told_lem (s ∷ ss) t has holds whole =
-    rw (came-told s t has holds whole.0, left-told s t) (ap (λ (cs : List Came). came_told s t ∷ cs) (all_told_lem ss (next s t) has holds whole.1))
+    rw (came_told_lem s t has holds whole.0, left_told s t) (ap (λ (cs : List Came). came_told s t ∷ cs) (all_told_lem ss (next s t) has holds whole.1))
 
-pub end-told : (ss : List Step) (t : Scene) → end ss (state_of t) ≡ state_of (end_told ss t)
-end-told ss t = sym (end_forgets next series.next state_of (λ s t. sym (left-told s t)) ss t)
+pub end_told_lem : (ss : List Step) (t : Scene) → end ss (state_of t) ≡ state_of (end_told ss t)
+end_told_lem ss t = sym (end_forgets next series.next state_of (λ s t. sym (left_told s t)) ss t)
 
 -- what the memories held at first stays
-pub end-content : (ss : List Step) (t : Scene) → ((end_told ss t).array.content ≡ t.array.content)
+pub end_content : (ss : List Step) (t : Scene) → ((end_told ss t).array.content ≡ t.array.content)
     × ((end_told ss t).register.content ≡ t.register.content)
 unfolding next
-end-content ss t =
+end_content ss t =
     kept next (λ (u : Scene). (u.array.content ≡ t.array.content) × (u.register.content ≡ t.register.content))
     (λ s u p. p) ss t (refl, refl)

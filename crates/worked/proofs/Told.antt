@@ -12,8 +12,8 @@ use lib.Dec.{leb, eqb}
 use lib.ListN.{length, get_or, length-replicate, get_or-replicate}
 use Rattle.cells.specs.Each.{Cell, each, over}
 use Rattle.cells.specs.Range.{range}
-use Rattle.cells.proofs.Places.{get_or-each, length-each, each-alike, over-alike}
-use Rattle.cells.proofs.Runs.{range_in, range_before, range-behind}
+use Rattle.cells.proofs.Places.{get_or-each, length-each, each_alike, over_alike}
+use Rattle.cells.proofs.Runs.{range_in, range_before, range_behind}
 use Rattle.opcodes.specs.declared.Source.{Source}
 use Rattle.opcodes.specs.declared.Source.TheVariants.{Array, Register, Status, Identity, Legacy}
 use Rattle.device.specs.declared.Device.{Device}
@@ -22,7 +22,7 @@ use Rattle.judge.specs.declared.Judged.{Judged}
 use Rattle.operations.specs.Operations.{Operation, none, program, erase, cell_of}
 use Rattle.output.specs.Output.{Store, store, store_of, start_of, byte_from, line_at, unclocked, read_at}
 use Rattle.operations.specs.Bytes.{applied, through}
-use Rattle.operations.proofs.Applied.{applied-joined, applied-each, length-applied}
+use Rattle.operations.proofs.Applied.{applied_joined, applied_each, length-applied}
 use Rattle.worked.specs.Worked.{Piece, Content, blank, painted, content_of}
 use Rattle.worked.proofs.Computed.{Told, told, more, first_at, told_store, apart, inside, one_side, steady_for}
 use Rattle.worked.proofs.Computed.{steady_operations, steady_piece, steady_pieces, everywhere, agrees}
@@ -49,9 +49,9 @@ get_or-content c k l =
     ∙
     ap (painted c.pieces k) (get_or-blank c.size c.holds k l)
 
-pub begins-content : (c : Content) → content_of c ≡ memory_of (told c)
+pub begins_content : (c : Content) → content_of c ≡ memory_of (told c)
 unfolding memory_of applied
-begins-content c = refl
+begins_content c = refl
 
 pub length-told : (t : Told) → length (memory_of t) ≡ t.content.size
 unfolding memory_of
@@ -61,13 +61,13 @@ get_or-told : (t : Told) (k : ℕ) → k < t.content.size → get_or (memory_of 
     ≡ through t.done k (first_at t.content k)
 unfolding memory_of
 get_or-told t k l =
-    ap (λ (xs : List ℕ). get_or xs k 0) (applied-each t.done (content_of t.content)) ∙
+    ap (λ (xs : List ℕ). get_or xs k 0) (applied_each t.done (content_of t.content)) ∙
     (get_or-each (through t.done) (content_of t.content) k 0 (omega (arith, length-content t.content)) ∙
     ap (through t.done k) (get_or-content t.content k l))
 
 pub goes_on : (os : List Operation) (t : Told) → applied os (memory_of t) ≡ memory_of (more os t)
 unfolding memory_of
-goes_on os t = sym (applied-joined t.done os (content_of t.content))
+goes_on os t = sym (applied_joined t.done os (content_of t.content))
 
 -- A read of the memory is a read of the store that is computed.
 module _ (array register : Told) (has : 0 < array.content.size) (holds : 0 < register.content.size) where
@@ -98,9 +98,9 @@ module _ (array register : Told) (has : 0 < array.content.size) (holds : 0 < reg
       ≡ each (over (range 0 (length input)) (λ k x. read_at j stand wp bits (told_store array) (told_store register) input k)) xs
   unfolding read_at
   read_told j stand wp bits input xs =
-      each-alike (over (range 0 (length input)) real) (over (range 0 (length input)) computed) xs
+      each_alike (over (range 0 (length input)) real) (over (range 0 (length input)) computed) xs
       (λ k l.
-      over-alike (range 0 (length input)) (range 0 (length input)) real computed k (get_or xs k 0) refl
+      over_alike (range 0 (length input)) (range 0 (length input)) real computed k (get_or xs k 0) refl
       (λ c. ap (λ (b : ℕ). bit_or b (unclocked bits k)) (on_line j.action j stand wp input k)))
     where
       real : Cell
@@ -115,7 +115,7 @@ module _ (low n k : ℕ) (p : low ≤ k) (q : k < low + n) where
   left_out from to e = by (leb to low) (leb-true to low) e
     where
       by : (b : Bool) → (b ≡ true → to ≤ low) → (b || leb (low + n) from) ≡ true → (range from to k ≡ false) × (range from to low ≡ false)
-      by true h e = let l : to ≤ low = h refl in (range-behind from to k (omega arith), range-behind from to low l)
+      by true h e = let l : to ≤ low = h refl in (range_behind from to k (omega arith), range_behind from to low l)
       by false h e = let l : low + n ≤ from = leb-true (low + n) from e in (range_before from to k (omega arith), range_before from to low (omega arith))
 
   same_side : (from to : ℕ) → one_side from to low n ≡ true → range from to k ≡ range from to low
@@ -162,12 +162,12 @@ module _ (low n k : ℕ) (p : low ≤ k) (q : k < low + n) where
       steady_piece_lem piece.step piece.from piece.to piece.value (painted ps k x) (painted ps low y) w.0
       (steady_painted ps x y w.1 same)
 
-pub painted-told : (t : Told) (ps : List Piece) → t.content.size ≤ 262144 → agrees t.done ps t.content ≡ true
+pub painted_told : (t : Told) (ps : List Piece) → t.content.size ≤ 262144 → agrees t.done ps t.content ≡ true
     → memory_of t ≡ each (painted ps) (content_of t.content)
 unfolding memory_of agrees
-painted-told t ps fits e =
-    applied-each t.done (content_of t.content) ∙
-    each-alike (through t.done) (painted ps) (content_of t.content)
+painted_told t ps fits e =
+    applied_each t.done (content_of t.content) ∙
+    each_alike (through t.done) (painted ps) (content_of t.content)
     (λ k l.
     let m : k < t.content.size = omega (arith, length-content t.content) in
     rw (get_or-content t.content k m)

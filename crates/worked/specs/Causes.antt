@@ -65,10 +65,10 @@ abbrev sents : List (Sent × String) → List Sent
 sents frames = map (λ (f : Sent × String). f.0) frames
 
 -- with WEL 1 each is aborted for that
-unfoldable pub each-aborted : List (Sent × String) → List Exchange
-each-aborted [] = []
-each-aborted (f ∷ fs) =
-    (f.0 ⇒ aborted f.1 (barred false Awake 0) (length f.0.bytes)) ∷ enable ∷ each-aborted fs
+unfoldable pub each_aborted : List (Sent × String) → List Exchange
+each_aborted [] = []
+each_aborted (f ∷ fs) =
+    (f.0 ⇒ aborted f.1 (barred false Awake 0) (length f.0.bytes)) ∷ enable ∷ each_aborted fs
 
 -- A command that needs WEL: its frames while busy and asleep, with WEL as said, then with WEL 0, then with WEL 1; and
 -- in the end, it may be, one that nothing bars.
@@ -78,7 +78,7 @@ told code frames obeyed wel =
     (unheard wel code (sents frames) ++ disable ∷
     hushed "latch clear" (barred false Awake 0) code (sents frames) ++ enable ∷
     few (barred true Awake 0) code ∷
-    each-aborted frames ++ obeyed)
+    each_aborted frames ++ obeyed)
     []
 
 -- 02: short and off a boundary, short, off a boundary, and neither
@@ -174,8 +174,8 @@ resets =
     reset (held true true false true true Awake 0) (held true true false true true Awake 0))
     []
 
-abbrev resets-busy : Row
-resets-busy =
+abbrev resets_busy : Row
+resets_busy =
     row (held false false true true false Awake 9) 0xFF
     (reset (held false false true true false Awake 9) (held false false false true false Awake 0)) []
 
@@ -243,20 +243,20 @@ statuses =
     []
 
 -- what bars one command does not bar another: 01 with BP0 1, 9B with BP0 and BPL 1, 60 with BPL and the mark 1
-abbrev status-guarded : Row
-status-guarded =
+abbrev status_guarded : Row
+status_guarded =
     row (held false true true false true Awake 0) 0xFF
     ((low (0x01 ∷ 0x80 ∷ []) 0 ⇒ quiet "begun" (held true false false false true Awake 20000) 2) ∷ []) []
 
-abbrev otp-guarded : Row
-otp-guarded =
+abbrev otp_guarded : Row
+otp_guarded =
     registered 128 [] (piece 2 3 0x5A ∷ [])
     (row (held true true true false false Awake 0) 0xFF
     ((low (0x9B ∷ 0x00 ∷ 0x00 ∷ 0x02 ∷ 0x5A ∷ []) 0 ⇒ quiet "begun" (barred false Awake 400) 5) ∷ [])
     [])
 
-abbrev erase-guarded : Row
-erase-guarded =
+abbrev erase_guarded : Row
+erase_guarded =
     row (held true false true false true Awake 0) 0x00
     ((low (0x60 ∷ []) 0 ⇒ begun 0 0x20000 (held true false false false true Awake 1600000) 1) ∷ [])
     (piece 0 0x20000 0xFF ∷ [])
@@ -287,12 +287,12 @@ refusals =
     [])
     []
 
-abbrev refused-asleep : Row
-refused-asleep =
+abbrev refused_asleep : Row
+refused_asleep =
     row (barred true Deep 9) 0x00 ((cut 12 (0xAB ∷ 0x00 ∷ []) ⇒ refused 6 (barred true Deep 9) 2) ∷ []) []
 
-unfoldable pub cause-rows : List Row
-cause-rows =
+unfoldable pub cause_rows : List Row
+cause_rows =
     alone enabled (clocked 7 (0x05 ∷ []) 0) (nothing "too few bits" enabled 1) ∷
     alone (held false false true false false Deep 0) (whole (0x05 ∷ []) 0)
     (nothing "asleep" (held false false true false false Deep 0) 1) ∷
@@ -329,7 +329,7 @@ cause-rows =
     order 0xB9 ∷
     order 0x79 ∷
     resets ∷
-    resets-busy ∷
+    resets_busy ∷
     resume ∷
     unlisted true 0x00 (cut 8 (0x00 ∷ []) ∷ cut 12 (0x00 ∷ 0x00 ∷ []) ∷ []) ∷
     unlisted false 0xAC (cut 8 (0xAC ∷ []) ∷ cut 12 (0xAC ∷ 0x00 ∷ []) ∷ []) ∷
@@ -340,10 +340,10 @@ cause-rows =
     identities 0x9F ∷
     identities 0x15 ∷
     statuses ∷
-    status-guarded ∷
-    otp-guarded ∷
-    erase-guarded ∷
+    status_guarded ∷
+    otp_guarded ∷
+    erase_guarded ∷
     ultra ∷
     refusals ∷
-    refused-asleep ∷
+    refused_asleep ∷
     []

@@ -40,25 +40,25 @@ abbrev cut_by_one : Row
 cut_by_one = row enabled 0x00 (aborting "off boundary" true 1 enabled idle longer) []
 
 -- protected by BP0: neither BPL nor WP bears on it, nor the address
-abbrev guarded-array : Bool → Bool → List (List ℕ) → Row
-guarded-array bpl wp frames =
+abbrev guarded_array : Bool → Bool → List (List ℕ) → Row
+guarded_array bpl wp frames =
     row (stands bpl true true 0) 0x00
     (aborting "protected" wp 0 (stands bpl true true 0) (stands bpl true false 0) frames) []
 
-abbrev worn-enabled : Device
-worn-enabled = held true false true true true Awake 0
+abbrev worn_enabled : Device
+worn_enabled = held true false true true true Awake 0
 
 -- Programs. 0Fh, 33h, 55h and F0h on 3Ch leave 0Ch, 30h, 14h and 30h; the page of 0180FEh ends after two bytes
 abbrev programs_four : Row
 programs_four =
-    row worn-enabled 0x3C
+    row worn_enabled 0x3C
     ((low (0x02 ∷ 0xFD ∷ 0x80 ∷ 0xFE ∷ 0x0F ∷ 0x33 ∷ 0x55 ∷ 0xF0 ∷ []) 0 ⇒ begun 0x18000 0x18100 (worn 2000) 8) ∷ [])
     (bytes 0x180FE (0x0C ∷ 0x30 ∷ []) ++ bytes 0x18000 (0x14 ∷ 0x30 ∷ []))
 
 abbrev programs_four_small : Row
 programs_four_small =
     sized 65536
-    (row worn-enabled 0x3C
+    (row worn_enabled 0x3C
     ((whole (0x02 ∷ 0xFD ∷ 0x80 ∷ 0xFE ∷ 0x0F ∷ 0x33 ∷ 0x55 ∷ 0xF0 ∷ []) 0 ⇒ begun 0x8000 0x8100 (worn 2000) 8) ∷ [])
     (bytes 0x80FE (0x0C ∷ 0x30 ∷ []) ++ bytes 0x8000 (0x14 ∷ 0x30 ∷ [])))
 
@@ -113,7 +113,7 @@ abbrev erasing : ℕ → List ℕ → ℕ → ℕ → ℕ → Row
 erasing size frame ticks from to =
     registered 128 made []
     (sized size
-    (row worn-enabled 0x00 ((low frame 0 ⇒ begun from to (worn ticks) (length frame)) ∷ []) (piece from to 0xFF ∷ [])))
+    (row worn_enabled 0x00 ((low frame 0 ⇒ begun from to (worn ticks) (length frame)) ∷ []) (piece from to 0xFF ∷ [])))
 
 -- Other durations, on the small array, at 8 ticks a position: each operation lasts its own, and 06 is heard when as
 -- many have passed
@@ -157,8 +157,8 @@ other_times =
     (piece 0 0x10000 0xFF ∷ []))))
 
 -- OTP programs: 0Fh, 33h and 55h from 3Eh on, and the array stays
-abbrev otp-anded : Row
-otp-anded =
+abbrev otp_anded : Row
+otp_anded =
     registered 128 made (bytes 62 (0x0C ∷ 0x30 ∷ []) ++ bytes 0 (0x14 ∷ []))
     (row (held true true true true false Awake 0) 0x3C
     ((low (0x9B ∷ 0x12 ∷ 0x34 ∷ 0xFE ∷ 0x0F ∷ 0x33 ∷ 0x55 ∷ []) 0
@@ -173,8 +173,8 @@ otp-anded =
     [])
 
 -- one data byte takes as long; of the address the low six bits count
-abbrev otp-one : Row
-otp-one =
+abbrev otp_one : Row
+otp_one =
     registered 128 made (piece 0 1 0x24 ∷ [])
     (row enabled 0xFF
     ((whole (0x9B ∷ 0xFF ∷ 0xFF ∷ 0xC0 ∷ 0x66 ∷ []) 0 ⇒ quiet "begun" (held false false false false true Awake 400) 5) ∷
@@ -193,8 +193,8 @@ otp_seventy =
     [])
 
 -- with the mark 1 it is aborted, and so is one that is short; then the mark stays as it was
-abbrev otp-used : Row
-otp-used =
+abbrev otp_used : Row
+otp_used =
     registered 128 made []
     (row (held false true true true true Awake 0) 0xFF
     ((whole (0x9B ∷ 0x00 ∷ 0x00 ∷ 0x00 ∷ 0x00 ∷ []) 0 ⇒
@@ -202,8 +202,8 @@ otp-used =
     [])
     [])
 
-unfoldable pub data-rows : List Row
-data-rows =
+unfoldable pub data_rows : List Row
+data_rows =
     without_wel (held true false false true false Awake 0) ∷
     without_wel (held false true false false true Awake 0) ∷
     while_busy (held true false true false true Awake 5) ∷
@@ -212,10 +212,10 @@ data-rows =
     cut_by_four ∷
     cut_by_six ∷
     cut_by_one ∷
-    guarded-array false true on_array_lem ∷
-    guarded-array true true on_array_lem ∷
-    guarded-array true false above ∷
-    guarded-array false false above ∷
+    guarded_array false true on_array_lem ∷
+    guarded_array true true on_array_lem ∷
+    guarded_array true false above ∷
+    guarded_array false false above ∷
     programs_four ∷
     programs_four_small ∷
     programs_ff ∷
@@ -225,10 +225,10 @@ data-rows =
     programs_257 ∷
     programs_300 ∷
     other_times ∷
-    otp-anded ∷
-    otp-one ∷
+    otp_anded ∷
+    otp_one ∷
     otp_seventy ∷
-    otp-used ∷
+    otp_used ∷
     erasing 131072 (0x81 ∷ 0x01 ∷ 0xFF ∷ 0x80 ∷ []) 7000 0x1FF00 0x20000 ∷
     erasing 131072 (0x20 ∷ 0x01 ∷ 0x0F ∷ 0xFF ∷ 0xAA ∷ []) 50000 0x10000 0x11000 ∷
     erasing 131072 (0x52 ∷ 0x01 ∷ 0x80 ∷ 0x00 ∷ []) 400000 0x18000 0x20000 ∷

@@ -70,8 +70,8 @@ locks bp0 byte becomes =
     []
 
 -- with BPL 1 and WP low it is aborted
-abbrev locked-low : Row
-locked-low =
+abbrev locked_low : Row
+locked_low =
     row (guarded true false true) 0xFF ((low (0x01 ∷ 0x04 ∷ []) 0 ⇒ aborted "locked" (guarded true false false) 2) ∷ [])
     []
 
@@ -107,8 +107,8 @@ no_resets d =
     []
 
 -- nor with RSTE 0
-abbrev no_reset-idle : Row
-no_reset-idle =
+abbrev no_reset_idle : Row
+no_reset_idle =
     row (held true true true false true Awake 0) 0xFF
     ((low (0xF0 ∷ 0xD0 ∷ []) 0 ⇒
     nothing "reset not enabled or not confirmed" (held true true true false true Awake 0) 2) ∷ []) []
@@ -144,7 +144,7 @@ flags =
     locks false 0x84 true ∷
     locks true 0x80 true ∷
     locks true 0x00 false ∷
-    locked-low ∷
+    locked_low ∷
     enabling false 0x10 true ∷
     enabling true 0x10 true ∷
     enabling true 0x00 false ∷
@@ -158,7 +158,7 @@ flags =
     no_resets (held true false true true false Awake 9) ∷
     no_resets (held false true false true true Awake 9) ∷
     no_resets (held false true true true true Awake 0) ∷
-    no_reset-idle ∷
+    no_reset_idle ∷
     latching true false true false ∷
     latching false true false true ∷
     []

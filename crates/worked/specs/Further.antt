@@ -111,11 +111,11 @@ abbrev erases : ℕ → List ℕ → ℕ → ℕ → ℕ → ℕ → Row
 erases code address n ticks from to =
     row enabled 0x00 ((whole (code ∷ address) 0 ⇒ begun from to (busy ticks) n) ∷ []) (piece from to 0xFF ∷ [])
 
-abbrev page-erase : Row
-page-erase = erases 0x81 (0x00 ∷ 0x12 ∷ 0x34 ∷ []) 4 7000 0x1200 0x1300
+abbrev page_erase : Row
+page_erase = erases 0x81 (0x00 ∷ 0x12 ∷ 0x34 ∷ []) 4 7000 0x1200 0x1300
 
-abbrev large-erase : Row
-large-erase = erases 0x52 (0x00 ∷ 0x80 ∷ 0x01 ∷ []) 4 400000 0x8000 0x10000
+abbrev large_erase : Row
+large_erase = erases 0x52 (0x00 ∷ 0x80 ∷ 0x01 ∷ []) 4 400000 0x8000 0x10000
 
 abbrev chip_erase_60 : Row
 chip_erase_60 = erases 0x60 [] 1 1600000 0 0x20000
@@ -210,8 +210,8 @@ refusals =
 abbrev too_busy : Row
 too_busy = row (busy 60000001) 0xFF ((whole (0x05 ∷ 0x00 ∷ []) 60000001 ⇒ refused 6 (busy 60000001) 2) ∷ []) []
 
-abbrev busy-asleep : Row
-busy-asleep =
+abbrev busy_asleep : Row
+busy_asleep =
     row (told false false false Deep 1) 0xFF ((whole (0xAB ∷ []) 1 ⇒ refused 6 (told false false false Deep 1) 1) ∷ [])
     []
 
@@ -226,8 +226,8 @@ further =
     unlatched ∷
     aborts ∷
     protected ∷
-    page-erase ∷
-    large-erase ∷
+    page_erase ∷
+    large_erase ∷
     chip_erase_60 ∷
     chip_erase_c7 ∷
     chip_erase_62 ∷
@@ -239,6 +239,6 @@ further =
     locked ∷
     refusals ∷
     too_busy ∷
-    busy-asleep ∷
+    busy_asleep ∷
     another_size ∷
     []

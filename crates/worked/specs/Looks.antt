@@ -29,10 +29,10 @@ pub record Looks : Type 0 where
   pub up_to_the_end : of_array small 0xFFFE 5 ≡ 0x8E ∷ 0x8F ∷ []
   pub of_any_count : of_array small 0xFFF0 18446744073709551615 ≡ counting 0x80 16
   pub reduced : of_array small 0x1FFFF 1 ≡ 0x8F ∷ []
-  pub reduced-to_0 : of_array small 0x10000 1 ≡ 0x40 ∷ []
+  pub reduced_to_0 : of_array small 0x10000 1 ≡ 0x40 ∷ []
   pub of_nothing : of_array small 0x5 0 ≡ []
   pub of_the_large : of_array large 0x1FFFE 9 ≡ 0xC1 ∷ 0xC2 ∷ []
-  pub of_the_large-reduced : of_array large 0xFE0001 2 ≡ 0x41 ∷ 0x42 ∷ []
+  pub of_the_large_reduced : of_array large 0xFE0001 2 ≡ 0x41 ∷ 0x42 ∷ []
   pub of_a_register : of_register register 0x101 2 ≡ 0x81 ∷ 0x82 ∷ []
   pub of_its_end : of_register register 0x7F 3 ≡ 0xFF ∷ []
   -- a wrong length of the chosen memory gives an empty view

@@ -22,8 +22,8 @@ falls_in_byte_two =
     row (busy 12) 0xFF ((poll ⇒ came "read" 1 5 idle (0xFF ∷ 0x11 ∷ 0x00 ∷ 0x10 ∷ 0x00 ∷ 0x10 ∷ [])) ∷ []) []
 
 -- 16 ticks left: none is left at the very first bit of position 2; with one tick more, one is
-abbrev falls_at_the_first-bit : Row
-falls_at_the_first-bit =
+abbrev falls_at_the_first_bit : Row
+falls_at_the_first_bit =
     row (busy 16) 0xFF ((poll ⇒ came "read" 1 5 idle (0xFF ∷ 0x11 ∷ 0x00 ∷ 0x10 ∷ 0x00 ∷ 0x10 ∷ [])) ∷ []) []
 
 abbrev one_tick_more : Row
@@ -77,8 +77,8 @@ abbrev heard : Row
 heard = row (busy 10) 0xFF ((paced 8 (whole (0x06 ∷ []) 10) ⇒ quiet "control" enabled 1) ∷ []) []
 
 -- the frame's own ticks come off before its operation starts, which takes its full duration
-abbrev begins-at_the_rise : Row
-begins-at_the_rise =
+abbrev begins_at_the_rise : Row
+begins_at_the_rise =
     row enabled 0xFF
     ((paced 1000 (whole (0x02 ∷ 0x00 ∷ 0x00 ∷ 0x00 ∷ 0x5A ∷ []) 0) ⇒ begun 0 0x100 (busy 12) 5) ∷
     (paced 2 (whole (0x05 ∷ 0x00 ∷ 0x00 ∷ []) 3) ⇒ came "read" 1 2 (busy 3) (0xFF ∷ 0x11 ∷ 0x01 ∷ [])) ∷
@@ -117,6 +117,6 @@ seven_first =
 
 unfoldable pub polls : List Row
 polls =
-    falls_in_byte_one ∷ falls_in_byte_two ∷ falls_at_the_first-bit ∷ one_tick_more ∷ does_not_fall ∷ others_stand ∷
+    falls_in_byte_one ∷ falls_in_byte_two ∷ falls_at_the_first_bit ∷ one_tick_more ∷ does_not_fall ∷ others_stand ∷
     positions ∷ ignored ∷ heard ∷
-    begins-at_the_rise ∷ resets ∷ eight ∷ seven_first ∷ []
+    begins_at_the_rise ∷ resets ∷ eight ∷ seven_first ∷ []

@@ -19,8 +19,8 @@ landmarks =
     piece 0x12345 0x12346 0x5B ∷
     []
 
-abbrev reads-large : Row
-reads-large =
+abbrev reads_large : Row
+reads_large =
     holding landmarks
     (row (worn 0) 0x11
     ((low (0x03 ∷ 0x00 ∷ 0xFF ∷ 0xFE ∷ 0x00 ∷ 0x00 ∷ 0x00 ∷ 0x00 ∷ []) 0
@@ -40,8 +40,8 @@ reads-large =
     [])
     [])
 
-abbrev reads-small : Row
-reads-small =
+abbrev reads_small : Row
+reads_small =
     sized 65536
     (holding (rising 0x0 0x10 0x40 ∷ rising 0xFFF0 0x10000 0x80 ∷ piece 0x2345 0x2346 0x6C ∷ [])
     (row idle 0x11
@@ -68,8 +68,8 @@ reads_a_page =
     [])
 
 -- a read that is cut short drives the positions that it has, a partial one too, and no flag moves
-abbrev short-reads : Device → Row
-short-reads d =
+abbrev short_reads : Device → Row
+short_reads d =
     row d 0x11
     (unmoved (quiet "read") d
     (wholes
@@ -121,8 +121,8 @@ sixteen = alternating ++ alternating ++ alternating ++ alternating
 abbrev pairs : List ℕ
 pairs = sixteen ++ sixteen ++ sixteen ++ sixteen
 
-abbrev long-poll : Row
-long-poll =
+abbrev long_poll : Row
+long_poll =
     row (busy 50) 0xFF
     ((paced 3 (whole (0x05 ∷ replicate 20 0x00) 0) ⇒
     came "read" 1 20 idle (0xFF ∷ (sixteen ++ (0x10 ∷ 0x00 ∷ 0x10 ∷ 0x00 ∷ [])))) ∷ [])
@@ -144,15 +144,15 @@ longer_times =
     row (busy 60000000) 0xFF ((low (0x05 ∷ 0x00 ∷ []) 9223372036854775808 ⇒ came "read" 1 1 idle (0xFF ∷ 0x00 ∷ [])) ∷
     []) []
 
-unfoldable pub read-rows : List Row
-read-rows =
-    reads-large ∷
-    reads-small ∷
+unfoldable pub read_rows : List Row
+read_rows =
+    reads_large ∷
+    reads_small ∷
     reads_a_page ∷
-    short-reads (held true false true false true Awake 0) ∷
-    short-reads (held false true false true false Awake 0) ∷
+    short_reads (held true false true false true Awake 0) ∷
+    short_reads (held false true false true false Awake 0) ∷
     clipped ∷
-    long-poll ∷
+    long_poll ∷
     long_times ∷
     longer_times ∷
     []

@@ -20,18 +20,18 @@ abbrev array_of : ℕ → Row
 array_of size = sized size (row enabled 0x00 ((erase ⇒ refused 1 enabled 1) ∷ []) [])
 
 -- 1 before 2; 2: a register one byte shorter or longer
-abbrev array-first : Row
-array-first = registered 127 [] [] (array_of 65535)
+abbrev array_first : Row
+array_first = registered 127 [] [] (array_of 65535)
 
 abbrev register_of : ℕ → Row
 register_of size = registered size [] [] (row enabled 0x00 ((erase ⇒ refused 2 enabled 1) ∷ []) [])
 
 -- 2 before 3, 3 before 4
-abbrev register-first : Row
-register-first = registered 129 [] [] (row enabled 0x00 ((whole (many 8192) 5 ⇒ refused 2 enabled 8193) ∷ []) [])
+abbrev register_first : Row
+register_first = registered 129 [] [] (row enabled 0x00 ((whole (many 8192) 5 ⇒ refused 2 enabled 8193) ∷ []) [])
 
-abbrev input-first : Row
-input-first = row enabled 0x00 ((clocked 8 (many 8192) 5 ⇒ refused 3 enabled 8193) ∷ []) []
+abbrev input_first : Row
+input_first = row enabled 0x00 ((clocked 8 (many 8192) 5 ⇒ refused 3 enabled 8193) ∷ []) []
 
 -- 4: bits that need a byte more, or a byte less; 17 bits need three bytes
 abbrev bits : Row
@@ -47,8 +47,8 @@ bits =
     []
 
 -- 4 before 5; 5: a byte of output too few, and exactly enough; 5 before 6
-abbrev bits-first : Row
-bits-first = row enabled 0x00 ((given 0 (clocked 9 (0x60 ∷ []) 5) ⇒ spared 4 enabled 0) ∷ []) []
+abbrev bits_first : Row
+bits_first = row enabled 0x00 ((given 0 (clocked 9 (0x60 ∷ []) 5) ⇒ spared 4 enabled 0) ∷ []) []
 
 abbrev room : Row
 room =
@@ -60,12 +60,12 @@ room =
     [])
     []
 
-abbrev room-first : Row
-room-first = row (busy 60000001) 0x00 ((given 0 erase ⇒ spared 5 (busy 60000001) 0) ∷ []) []
+abbrev room_first : Row
+room_first = row (busy 60000001) 0x00 ((given 0 erase ⇒ spared 5 (busy 60000001) 0) ∷ []) []
 
 -- 6: busy ticks up to 60,000,000 are accepted, in a part that is awake; 6 before 7
-abbrev most-busy : Row
-most-busy =
+abbrev most_busy : Row
+most_busy =
     row (busy 60000000) 0x00 ((whole (0x05 ∷ 0x00 ∷ []) 1 ⇒ came "read" 1 1 (busy 59999999) (0xFF ∷ 0x11 ∷ [])) ∷ []) []
 
 abbrev asleep_and : Mode → Row
@@ -73,8 +73,8 @@ asleep_and mode =
     row (held true false true false false mode 1) 0x00
     ((whole (0xAB ∷ []) 1 ⇒ refused 6 (held true false true false false mode 1) 1) ∷ []) []
 
-abbrev record-first : Row
-record-first =
+abbrev record_first : Row
+record_first =
     lasting (12 ∷ 2000 ∷ 7000 ∷ 50000 ∷ 400000 ∷ 1600000 ∷ 400 ∷ 60000001 ∷ [])
     (row (busy 60000001) 0x00 ((erase ⇒ refused 6 (busy 60000001) 1) ∷ []) [])
 
@@ -102,28 +102,28 @@ shortest =
     lasting (1 ∷ 1 ∷ 1 ∷ 1 ∷ 1 ∷ 1 ∷ 1 ∷ 1 ∷ [])
     (row enabled 0x00 ((erase ⇒ begun 0 131072 (busy 1) 1) ∷ []) (piece 0 131072 0xFF ∷ []))
 
-unfoldable pub refused-rows : List Row
-refused-rows =
+unfoldable pub refused_rows : List Row
+refused_rows =
     array_of 131073 ∷
     array_of 65535 ∷
     array_of 65537 ∷
     array_of 262144 ∷
     array_of 1 ∷
-    array-first ∷
+    array_first ∷
     register_of 127 ∷
     register_of 129 ∷
     register_of 64 ∷
     register_of 256 ∷
-    register-first ∷
-    input-first ∷
+    register_first ∷
+    input_first ∷
     bits ∷
-    bits-first ∷
+    bits_first ∷
     room ∷
-    room-first ∷
-    most-busy ∷
+    room_first ∷
+    most_busy ∷
     asleep_and Deep ∷
     asleep_and UltraDeep ∷
-    record-first ∷
+    record_first ∷
     unfair 0 0 ∷
     unfair 1 0 ∷
     unfair 2 0 ∷

@@ -5,27 +5,27 @@ use Rattle.worked.specs.Further.{further}
 use Rattle.worked.specs.Polls.{polls}
 use Rattle.worked.specs.Flags.{flags}
 use Rattle.worked.specs.Modes.{modes}
-use Rattle.worked.specs.Data.{data-rows}
-use Rattle.worked.specs.Reads.{read-rows}
-use Rattle.worked.specs.Refused.{refused-rows}
-use Rattle.worked.specs.Causes.{cause-rows}
+use Rattle.worked.specs.Data.{data_rows}
+use Rattle.worked.specs.Reads.{read_rows}
+use Rattle.worked.specs.Refused.{refused_rows}
+use Rattle.worked.specs.Causes.{cause_rows}
 
 pub record Rows : Type 0 where
   -- P1 to P10, the session and the limits
-  pub worked-table : EachWorked table
+  pub worked_table : EachWorked table
   -- each opcode, each duration, each way to be aborted or refused
-  pub worked-further : EachWorked further
+  pub worked_further : EachWorked further
   -- frames that take time
-  pub worked-polls : EachWorked polls
+  pub worked_polls : EachWorked polls
   -- the flags, unlike each other
-  pub worked-flags : EachWorked flags
+  pub worked_flags : EachWorked flags
   -- the modes, and what is not heard
-  pub worked-modes : EachWorked modes
+  pub worked_modes : EachWorked modes
   -- what changes array and register
-  pub worked-data : EachWorked data-rows
+  pub worked_data : EachWorked data_rows
   -- what is read
-  pub worked-reads : EachWorked read-rows
+  pub worked_reads : EachWorked read_rows
   -- the refusals, at their limits and in their order
-  pub worked-refused : EachWorked refused-rows
+  pub worked_refused : EachWorked refused_rows
   -- why nothing came of a frame
-  pub worked-causes : EachWorked cause-rows
+  pub worked_causes : EachWorked cause_rows

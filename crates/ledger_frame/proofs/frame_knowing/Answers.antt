@@ -2,12 +2,12 @@
 use Rattle.std.proofs.Common.{sym, ◌∙◌}
 use Rattle.part.specs.Frame.{call, lent}
 use Rattle.ledger.specs.Ledger.{ledger}
-use Rattle.ledger_frame.proofs.Frames.{short, shut-frame, open_frame}
+use Rattle.ledger_frame.proofs.Frames.{short, shut_frame, open_frame}
 use Rattle.ledger_frame.proofs.frame_knowing.Goals as goal
 
 pub returns-then-shut : goal.returns-then-shut
 returns-then-shut c =
-    shut-frame _ _ c.args.account (ledger c.args.totals.now c.args.most.now c.args.numbers.now c.args.running) _
+    shut_frame _ _ c.args.account (ledger c.args.totals.now c.args.most.now c.args.numbers.now c.args.running) _
     (sym c.requires ∙ c.if-shut.true) c.turned_away-answer.ensures
 
 pub book-running-requires-clause-busy_bound : goal.book-running-requires-clause-busy_bound

@@ -2,7 +2,7 @@
 use Rattle.std.proofs.Common.{refl, arith}
 use Rattle.opcodes.specs.Rows.{rows, lookup, row_of}
 use Rattle.opcodes.proofs.Lookup.{sought, here, next}
-use Rattle.numbers.proofs.Search.{at-end}
+use Rattle.numbers.proofs.Search.{at_end}
 use Rattle.opcodes.proofs.row_of.Goals as goal
 
 pub loop-i-init : goal.loop-i-init
@@ -17,4 +17,4 @@ loop-i-preserved c = next _ c.loop-i.i _ _ c.loop-i.invariant (omega arith) c.if
 
 pub returns : goal.returns
 unfolding lookup
-returns c = at-end (sought c.args.code) _ c.loop-i.i _ c.loop-i.invariant (omega arith)
+returns c = at_end (sought c.args.code) _ c.loop-i.i _ c.loop-i.invariant (omega arith)

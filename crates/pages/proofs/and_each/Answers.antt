@@ -1,6 +1,6 @@
 -- `pages::and_each` meets its contract: each turn ANDs one byte more, read as it was. Assumes nothing.
 use Rattle.std.proofs.Common.{arith}
-use Rattle.cells.proofs.Runs.{begins, same_long, next-read, goes_on, ends}
+use Rattle.cells.proofs.Runs.{begins, same_long, next_read, goes_on, ends}
 use Rattle.pages.proofs.and_each.Goals as goal
 
 pub loop-i-init : goal.loop-i-init
@@ -9,7 +9,7 @@ loop-i-init c = begins _ _ _ _ (omega arith)
 pub loop-i-preserved : goal.loop-i-preserved
 loop-i-preserved c =
     let r = c.loop-i.invariant in
-    goes_on r _ (omega arith) (omega (arith, same_long r)) (rw (next-read r 0))
+    goes_on r _ (omega arith) (omega (arith, same_long r)) (rw (next_read r 0))
 
 pub returns : goal.returns
 returns c = ends c.loop-i.invariant (omega arith)

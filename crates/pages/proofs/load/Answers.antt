@@ -1,6 +1,6 @@
 -- `pages::load` meets its contract: each turn loads one straight run more. Assumes nothing.
 use Rattle.std.proofs.Common.{arith}
-use Rattle.pages.proofs.Loads.{load_begins, load_long, loads_on, all_loaded}
+use Rattle.pages.proofs.Loads.{load_begins, loads_on, all_loaded}
 use Rattle.pages.proofs.load.Goals as goal
 
 pub loop-at-init : goal.loop-at-init

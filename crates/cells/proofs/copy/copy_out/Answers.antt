@@ -1,6 +1,6 @@
 -- `cells::copy::copy_out` meets its contract: each turn copies one straight run more. Assumes nothing.
 use Rattle.std.proofs.Common.{arith}
-use Rattle.cells.proofs.Runs.{same_long, ends}
+use Rattle.cells.proofs.Runs.{ends}
 use Rattle.cells.proofs.Wraps.{copy_begins, copies_on}
 use Rattle.cells.proofs.copy.copy_out.Goals as goal
 

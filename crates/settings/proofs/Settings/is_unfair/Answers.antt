@@ -1,7 +1,7 @@
 -- `settings::Settings::is_unfair` meets its contract: what the test says of the durations from i on it says of all. Assumes nothing.
 use Rattle.std.proofs.Common.{arith}
 use Rattle.settings.specs.Settings.{any_unfair}
-use Rattle.numbers.proofs.Search.{from_here, at-end}
+use Rattle.numbers.proofs.Search.{from_here, at_end}
 use Rattle.settings.proofs.Settings.is_unfair.Goals as goal
 
 pub returns-then-t : goal.returns-then-t
@@ -15,4 +15,4 @@ loop-i-preserved c =
 
 pub returns : goal.returns
 unfolding any_unfair
-returns c = at-end any_unfair c.args.self.ticks c.loop-i.i _ c.loop-i.invariant.1 (omega arith)
+returns c = at_end any_unfair c.args.self.ticks c.loop-i.i _ c.loop-i.invariant.1 (omega arith)
