@@ -13,16 +13,14 @@ use memories::{look, look_start};
 use settings::Settings;
 
 // The version of this face.
-#[unsafe(no_mangle)]
-pub extern "C" fn oxterin_version() -> u64
+pub fn oxterin_version() -> u64
     ensures { result ≡ face.version }
 {
     1005000
 }
 
 // A fresh record, from BPL, BP0 and the OTP-used mark.
-#[unsafe(no_mangle)]
-pub extern "C" fn oxterin_fresh(bpl: u64, bp0: u64, used: u64, device: &mut [u64]) -> u64
+pub fn oxterin_fresh(bpl: u64, bp0: u64, used: u64, device: &mut [u64]) -> u64
     ensures value { result ≡ number_if (face.is_fresh bpl bp0 used (length device.old)) }
     ensures device_after { device.new ≡
         written_if (face.is_fresh bpl bp0 used (length device.old)) (face.fresh_words bpl bp0 used) device.old }
@@ -32,8 +30,7 @@ pub extern "C" fn oxterin_fresh(bpl: u64, bp0: u64, used: u64, device: &mut [u64
 }
 
 // The typical durations.
-#[unsafe(no_mangle)]
-pub extern "C" fn oxterin_typical(settings: &mut [u64]) -> u64
+pub fn oxterin_typical(settings: &mut [u64]) -> u64
     ensures value { result ≡ number_if (is_settings settings.old) }
     ensures settings_after { settings.new ≡ written_if (is_settings settings.old) face.typical_words settings.old }
 {
@@ -43,8 +40,7 @@ pub extern "C" fn oxterin_typical(settings: &mut [u64]) -> u64
 }
 
 // The two status bytes of a record, with the level of WP.
-#[unsafe(no_mangle)]
-pub extern "C" fn oxterin_status(device: &[u64], wp: u64, status: &mut [u64]) -> u64
+pub fn oxterin_status(device: &[u64], wp: u64, status: &mut [u64]) -> u64
     ensures value { result ≡ number_if (face.is_status device.now wp (length status.old)) }
     ensures status_after { status.new ≡
         written_if (face.is_status device.now wp (length status.old)) (face.status_words device.now wp)
@@ -59,8 +55,7 @@ pub extern "C" fn oxterin_status(device: &[u64], wp: u64, status: &mut [u64]) ->
 }
 
 // Where in the array, 0, or the register, 1, a look begins, and how many bytes it has.
-#[unsafe(no_mangle)]
-pub extern "C" fn oxterin_look<'a>(
+pub fn oxterin_look<'a>(
     array: &'a [u8],
     register: &'a [u8],
     memory: u64,

@@ -61,8 +61,7 @@ fn told(
 
 // One call, one chip-select frame: its number is the refusal's, 0 if the call is accepted. The record's words become those of the record
 // as it then stands.
-#[unsafe(no_mangle)]
-pub extern "C" fn oxterin_frame(
+pub fn oxterin_frame(
     device: &mut [u64],
     settings: &[u64],
     signals: &[u64],

@@ -8,8 +8,7 @@ ghost use Rattle.face_hex.specs.Words.{spoken, text_out, text_in};
 use face_words::{UNREAD, as_word};
 
 // An array as Intel HEX text: the number of the refusal, 0 if the text was written. The word becomes the number of characters.
-#[unsafe(no_mangle)]
-pub extern "C" fn oxterin_hex_write(array: &[u8], text: &mut [u8], characters: &mut [u64]) -> u64
+pub fn oxterin_hex_write(array: &[u8], text: &mut [u8], characters: &mut [u64]) -> u64
     ensures { spoken result characters.new text.new ≡
         text_out array.now text.old characters.old }
 {
@@ -24,8 +23,7 @@ pub extern "C" fn oxterin_hex_write(array: &[u8], text: &mut [u8], characters: &
 
 // Intel HEX text into an array: the number of the refusal, 0 if the text was read. The word becomes the place where the faulty record
 // begins, or the text after the end record, or where an end record is missing.
-#[unsafe(no_mangle)]
-pub extern "C" fn oxterin_hex_read(text: &[u8], array: &mut [u8], place: &mut [u64]) -> u64
+pub fn oxterin_hex_read(text: &[u8], array: &mut [u8], place: &mut [u64]) -> u64
     ensures { spoken result place.new array.new ≡ text_in text.now array.old place.old }
 {
     if place.len() == 1 {

@@ -87,8 +87,7 @@ fn told_for(
 
 // One call, one chip-select frame, for an account: its number is the refusal's, 0 if the call is accepted. The words of
 // the record and of the running operation become what then stands, and so do the tables.
-#[unsafe(no_mangle)]
-pub extern "C" fn oxterin_ledger_frame(
+pub fn oxterin_ledger_frame(
     device: &mut [u64],
     settings: &[u64],
     signals: &[u64],
@@ -126,8 +125,7 @@ pub extern "C" fn oxterin_ledger_frame(
 
 // Closes a month: the three tables are handed out and then empty, and the operation that runs stays its account's,
 // billed nothing so far.
-#[unsafe(no_mangle)]
-pub extern "C" fn oxterin_close(
+pub fn oxterin_close(
     running: &mut [u64],
     totals: &mut [u64; 256],
     most: &mut [u64; 256],
@@ -162,8 +160,7 @@ pub extern "C" fn oxterin_close(
 
 // The report on an account, three words: its total, the most ticks billed for one of its operations, and the number of
 // its operations.
-#[unsafe(no_mangle)]
-pub extern "C" fn oxterin_report<'a>(
+pub fn oxterin_report<'a>(
     totals: &'a [u64; 256],
     most: &'a [u64; 256],
     numbers: &'a [u64; 256],
