@@ -2,7 +2,7 @@
 // reads, and status byte 1 after the call.
 #![tactic(auto)]
 
-ghost use Rattle.std.specs.Prelude.{◌≡◌, ◌≤◌, ◌<◌, length};
+ghost use Rattle.std.specs.Prelude.{◌≡◌, ◌≤◌, ◌<◌, length, IfOk};
 ghost use Rattle.session.specs.Turn.{digit_of, turn_of};
 ghost use Rattle.part.specs.Frame.{lent};
 
@@ -11,8 +11,8 @@ use device::Device;
 use device::status::status_one;
 use part::frame;
 use settings::Settings;
-
-const STDOUT: i32 = 1;
+use std::io;
+use std::io::Write;
 
 // A hexadecimal digit.
 fn digit(value: u8) -> u8
@@ -27,31 +27,32 @@ fn digit(value: u8) -> u8
 }
 
 // Writes a byte as two digits, and a blank behind it.
-fn print_byte(byte: u8) {
+fn print_byte<W: Write>(out: &mut W, byte: u8) -> io::Result<()> {
     let text = [digit(byte / 16), digit(byte % 16), b' '];
-    io::write_all(STDOUT, &text);
+    out.write_all(&text)
 }
 
-fn print_bytes(bytes: &[u8]) {
-    let mut i = 0;
-    while i < bytes.len() {
-        print_byte(bytes[i]);
-        i += 1;
+fn print_bytes<W: Write>(out: &mut W, bytes: &[u8]) -> io::Result<()> {
+    for byte in bytes {
+        print_byte(out, *byte)?;
     }
+    Ok(())
 }
 
 // A line: the bytes of a frame, what the output reads, and status byte 1.
-fn print_line(input: &[u8], output: &[u8], status: u8) {
-    print_bytes(input);
-    io::write_all(STDOUT, b"> ");
-    print_bytes(output);
-    io::write_all(STDOUT, b"ST ");
+fn print_line<W: Write>(out: &mut W, input: &[u8], output: &[u8], status: u8) -> io::Result<()> {
+    print_bytes(out, input)?;
+    out.write_all(b"> ")?;
+    print_bytes(out, output)?;
+    out.write_all(b"ST ")?;
     let text = [digit(status / 16), digit(status % 16), b'\n'];
-    io::write_all(STDOUT, &text);
+    out.write_all(&text)
 }
 
-// One frame of whole bytes with WP high that takes no time, and its line; the record comes back.
-fn turn(
+// One frame of whole bytes with WP high that takes no time, and then its line; the record comes back. Where the line could not be written,
+// the memories are as the frame left them.
+fn turn<W: Write>(
+    out: &mut W,
     device: Device,
     settings: Settings,
     array: &mut [u8],
@@ -59,9 +60,9 @@ fn turn(
     input: &[u8],
     elapsed: u64,
     output: &mut [u8],
-) -> Device
+) -> io::Result<Device>
     requires { (length input.now ≤ 8192) × (length input.now ≤ length output.old) }
-    ensures value { result ≡ (turn_of device settings input.now elapsed (lent array.old register.old output.old)).reply.device }
+    ensures value { IfOk result (λ after. after ≡ (turn_of device settings input.now elapsed (lent array.old register.old output.old)).reply.device) }
     ensures output_after { lent array.new register.new output.new ≡ (turn_of device settings input.now elapsed (lent array.old register.old output.old)).lent }
 {
     let bytes = input.len();
@@ -73,11 +74,12 @@ fn turn(
     };
     let answer = frame(device, settings, array, register, input, signals, output);
     let after = answer.device;
-    print_line(input, &output[..bytes], status_one(after, true));
-    after
+    print_line(out, input, &output[..bytes], status_one(after, true))?;
+    Ok(after)
 }
 
-fn main() {
+fn main(rt: HostRuntime) -> io::Result<()> {
+    let mut out = io::writer(&rt);
     let mut array = [255u8; 65536];
     let mut register = [255u8; 128];
     let mut output = [0u8; 16];
@@ -86,6 +88,7 @@ fn main() {
     };
     let fresh = Device::fresh(false, false, false);
     let enabled = turn(
+        &mut out,
         fresh,
         settings,
         &mut array,
@@ -93,8 +96,9 @@ fn main() {
         b"\x06",
         0,
         &mut output,
-    );
+    )?;
     let busy = turn(
+        &mut out,
         enabled,
         settings,
         &mut array,
@@ -102,8 +106,9 @@ fn main() {
         b"\x02\x00\x00\xFE\x11\x22\x33",
         1,
         &mut output,
-    );
+    )?;
     let polled = turn(
+        &mut out,
         busy,
         settings,
         &mut array,
@@ -111,8 +116,9 @@ fn main() {
         b"\x05\x00\x00",
         1,
         &mut output,
-    );
+    )?;
     turn(
+        &mut out,
         polled,
         settings,
         &mut array,
@@ -120,5 +126,6 @@ fn main() {
         b"\x03\x00\x00\xFE\x00\x00\x00",
         2000,
         &mut output,
-    );
+    )?;
+    Ok(())
 }
