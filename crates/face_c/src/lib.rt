@@ -3,6 +3,6 @@
 #![tactic(auto)]
 
 mod basics;
-mod frame;
-mod hex;
-mod ledger;
+mod billing;
+mod frames;
+mod texts;
