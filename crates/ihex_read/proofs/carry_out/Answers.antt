@@ -2,7 +2,7 @@
 use Rattle.std.proofs.Common.{refl, sym, ◌∙◌, arith}
 use Rattle.ihex_read.proofs.Whole.{whole_room, read_byte}
 use Rattle.ihex_read.proofs.Faults.{sound, sound_whole}
-use Rattle.ihex_read.proofs.Walks.{sets_out, faultless, goes_on, no_end, carries, carries_no_more, obeyed-long, next_inside, next-further}
+use Rattle.ihex_read.proofs.Walks.{sets_out, faultless, goes_on, no_end, carries, carries_no_more, obeyed_long, next_inside, next_further}
 use Rattle.ihex_read.proofs.carry_out.Goals as goal
 
 pub loop-at-init : goal.loop-at-init
@@ -37,7 +37,7 @@ upper_behind-upper-requires c = (
 pub loop-at-smaller : goal.loop-at-smaller
 loop-at-smaller c =
     let walk = c.loop-at.invariant.walk in
-    omega (arith, c.next_line-next.ensures, next_inside walk, next-further walk c.loop-at-test.true)
+    omega (arith, c.next_line-next.ensures, next_inside walk, next_further walk c.loop-at-test.true)
 
 pub loop-at-preserved : goal.loop-at-preserved
 loop-at-preserved c =
@@ -50,7 +50,7 @@ loop-at-preserved c =
       walk =
           rw (next, upper.value)
           (goes_on so.walk c.loop-at-test.true free (λ e. c.if-byte_at-eq1.false (sym kind ∙ e)) (rw upper.value at upper.upper_bound));
-      long = rw c.obey.ensures (obeyed-long _ _ _ ∙ so.long);
+      long = rw c.obey.ensures (obeyed_long _ _ _ ∙ so.long);
       so_far = rw (next, upper.value, c.obey.ensures) (sym (carries so.walk c.loop-at.array c.loop-at-test.true) ∙ so.so_far);
     }
 

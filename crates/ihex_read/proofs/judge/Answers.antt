@@ -2,7 +2,7 @@
 use Rattle.std.proofs.Common.{sym, ◌∙◌, arith}
 use Rattle.ihex_read.proofs.Whole.{whole_room, read_byte}
 use Rattle.ihex_read.proofs.Faults.{sound, sound_whole}
-use Rattle.ihex_read.proofs.Walks.{sets_out, stops, ends_at, goes_on, runs_out, next_inside, next-further}
+use Rattle.ihex_read.proofs.Walks.{sets_out, stops, ends_at, goes_on, runs_out, next_inside, next_further}
 use Rattle.ihex_read.proofs.judge.Goals as goal
 
 pub loop-at-init : goal.loop-at-init
@@ -39,7 +39,7 @@ upper_behind-upper-requires c =
 
 pub loop-at-smaller : goal.loop-at-smaller
 loop-at-smaller c =
-    omega (arith, c.next_line-next.ensures, next_inside c.loop-at.invariant, next-further c.loop-at.invariant c.loop-at-test.true)
+    omega (arith, c.next_line-next.ensures, next_inside c.loop-at.invariant, next_further c.loop-at.invariant c.loop-at-test.true)
 
 pub loop-at-preserved : goal.loop-at-preserved
 loop-at-preserved c =

@@ -3,19 +3,19 @@ use Rattle.std.proofs.Common.{ℕ, ◌+◌, get_or, drop, sym, ap, ◌∙◌, ar
 use borrow.Author.Tests.{ltb-true}
 use lib.Dec.{eqb}
 use Rattle.ihex_layout.specs.Layout.{colon, sum_of}
-use Rattle.ihex_read.proofs.Whole.{middle, found, too_short-at, no_length-at, same_sum}
+use Rattle.ihex_read.proofs.Whole.{middle, found, too_short_at, no_length_at, same_sum}
 use Rattle.ihex_read.proofs.record_at.Goals as goal
 
 pub returns-then-left-lt11-clause-whole_value : goal.returns-then-left-lt11-clause-whole_value
-returns-then-left-lt11-clause-whole_value c = sym (too_short-at c.args.text.now c.args.at (omega arith))
+returns-then-left-lt11-clause-whole_value c = sym (too_short_at c.args.text.now c.args.at (omega arith))
 
 pub returns-then-not-is_pair-clause-whole_value : goal.returns-then-not-is_pair-clause-whole_value
-returns-then-not-is_pair-clause-whole_value c = sym (no_length-at c.args.text.now c.args.at (sym c.is_pair.ensures ∙ c.if-not-is_pair.true))
+returns-then-not-is_pair-clause-whole_value c = sym (no_length_at c.args.text.now c.args.at (sym c.is_pair.ensures ∙ c.if-not-is_pair.true))
 
 pub returns-then-left-length-clause-whole_value : goal.returns-then-left-length-clause-whole_value
 returns-then-left-length-clause-whole_value c =
     let known = c.byte_at-length.ensures.value (ltb-true _ _ (sym c.is_pair.ensures ∙ c.if-not-is_pair.false)) in
-    sym (too_short-at c.args.text.now c.args.at (omega arith))
+    sym (too_short_at c.args.text.now c.args.at (omega arith))
 
 pub returns : goal.returns
 returns c =
