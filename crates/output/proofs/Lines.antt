@@ -47,13 +47,13 @@ kept bytes bits k x h = by (range 0 bytes k) refl
     by false e = sym (over_out (range 0 bytes) (λ k x. bit_or x (unclocked bits k)) k x e)
 
 -- a frame of whole bytes is not clipped
-pub clip-none : (bytes bits : ℕ) (xs : List ℕ) → (bits + 7) / 8 ≡ bytes → bits % 8 ≡ 0 → xs ≡ each (clipped bytes bits) xs
-clip-none bytes bits xs n z = is_each (clipped bytes bits) xs xs refl (λ k l. kept bytes bits k (get_or xs k 0) (λ m. omega arith))
+pub clip_none : (bytes bits : ℕ) (xs : List ℕ) → (bits + 7) / 8 ≡ bytes → bits % 8 ≡ 0 → xs ≡ each (clipped bytes bits) xs
+clip_none bytes bits xs n z = is_each (clipped bytes bits) xs xs refl (λ k l. kept bytes bits k (get_or xs k 0) (λ m. omega arith))
 
 -- else its last byte is, and no other
-pub clip-last : (bytes bits : ℕ) (xs : List ℕ) → (bits + 7) / 8 ≡ bytes → bytes ≤ length xs → bits % 8 ≢ 0
+pub clip_last : (bytes bits : ℕ) (xs : List ℕ) → (bits + 7) / 8 ≡ bytes → bytes ≤ length xs → bits % 8 ≢ 0
     → set xs (bytes - 1) (bit_or (get_or xs (bytes - 1) 0) (0xFF / 2 ^ (bits % 8))) ≡ each (clipped bytes bits) xs
-clip-last bytes bits xs n l z = is_each (clipped bytes bits) xs clip (length-set xs last _) (λ k m. by k m (ℕ_discrete k last))
+clip_last bytes bits xs n l z = is_each (clipped bytes bits) xs clip (length-set xs last _) (λ k m. by k m (ℕ_discrete k last))
   where
     last : ℕ
     last = bytes - 1
@@ -97,10 +97,10 @@ pieces source stand wp array register input first end bytes xs p q =
     into k e = rw e
 
 -- What is on the line, with 1 for each bit that was not clocked, is what each position reads.
-pub line-clipped : (line : ℕ → ℕ) (bits bytes : ℕ) (xs : List ℕ)
+pub line_clipped : (line : ℕ → ℕ) (bits bytes : ℕ) (xs : List ℕ)
     → each (clipped bytes bits) (each (stored (range 0 bytes) line) xs) ≡ each (stored (range 0 bytes) (λ k. bit_or (line k) (unclocked bits k))) xs
 unfolding over
-line-clipped line bits bytes xs =
+line_clipped line bits bytes xs =
     each_then (clipped bytes bits) (stored (range 0 bytes) line) (stored (range 0 bytes) (λ k. bit_or (line k) (unclocked bits k))) xs
     (λ k l. by k (get_or xs k 0) (range 0 bytes k) refl)
   where

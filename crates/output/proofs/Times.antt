@@ -36,17 +36,17 @@ turns busy pace first end turn before behind k l h = by (ltb k turn) refl
     by false e = over busy (k * pace) (behind k l h (ltb-false k turn e))
 
 -- an idle part is idle at every position
-pub idle-at_once : (busy pace first end : ℕ) → busy ≡ 0 → BusyBefore busy pace first end first
-idle-at_once busy pace first end z = turns busy pace first end first (λ k l h m. absurd (omega arith)) (λ k l h m. omega arith)
+pub idle_at_once : (busy pace first end : ℕ) → busy ≡ 0 → BusyBefore busy pace first end first
+idle_at_once busy pace first end z = turns busy pace first end first (λ k l h m. absurd (omega arith)) (λ k l h m. omega arith)
 
 -- and a busy one busy at every position, if these take no ticks
 pub never_idle : (busy pace first end : ℕ) → 0 < busy → pace ≡ 0 → BusyBefore busy pace first end end
 never_idle busy pace first end p z = turns busy pace first end end (λ k l h m. rw z (omega arith)) (λ k l h m. absurd (omega arith))
 
 -- else the last busy position is the ticks but one, divided by the pace
-pub idle-behind : (busy pace first end turn last : ℕ) → 0 < busy → 0 < pace → last ≡ (busy - 1) / pace
+pub idle_behind : (busy pace first end turn last : ℕ) → 0 < busy → 0 < pace → last ≡ (busy - 1) / pace
     → ((k : ℕ) → first ≤ k → k < end → (k < turn → k ≤ last) × (turn ≤ k → last < k)) → BusyBefore busy pace first end turn
-idle-behind busy pace first end turn last p q e side =
+idle_behind busy pace first end turn last p q e side =
     turns busy pace first end turn
     (λ k l h m. let n : k * pace ≤ busy - 1 = (le-div_iff_mul-le q).0 (rw (← e) ((side k l h).0 m)) in omega arith)
     (λ k l h m. let n : busy - 1 < k * pace = (div-lt_iff_lt-mul q).0 (rw (← e) ((side k l h).1 m)) in omega arith)
