@@ -51,10 +51,10 @@ pairs_case line zero = refl
 pairs_case line (suc n) = rw (pairs_case line n, byte_case line n)
 
 -- nor does the sum
-sum_case : (line : List ℕ) (n : ℕ) → sum_of (map upper_case line) n ≡ sum_of line n
+sum-case : (line : List ℕ) (n : ℕ) → sum_of (map upper_case line) n ≡ sum_of line n
 unfolding sum_of
-sum_case line zero = refl
-sum_case line (suc n) = rw (sum_case line n, byte_case line n)
+sum-case line zero = refl
+sum-case line (suc n) = rw (sum-case line n, byte_case line n)
 
 -- nor does the shape of a record
 whole_case : (line : List ℕ) → is_whole (map upper_case line) ≡ is_whole line
@@ -64,7 +64,7 @@ whole_case line = rw (test_case colon (omega arith) line 0, length-map line uppe
 -- nor does the refusal of a line
 fault_case : (size upper : ℕ) (line : List ℕ) → fault_of size upper (map upper_case line) ≡ fault_of size upper line
 unfolding fault_of
-fault_case size upper line = simp (whole_case, byte_case, sum_case)
+fault_case size upper line = simp (whole_case, byte_case, sum-case)
 
 -- nor does the upper part of the addresses behind a line
 upper_case_lem : (upper : ℕ) (line : List ℕ) → upper_behind upper (map upper_case line) ≡ upper_behind upper line

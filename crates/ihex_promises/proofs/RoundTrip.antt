@@ -22,7 +22,7 @@ use Rattle.ihex_read.specs.Reader.{lines_in, place_of, fault_of, verdict, ended,
 use Rattle.ihex_promises.specs.Promises.{Bytes}
 use Rattle.ihex_promises.proofs.Endings.{Plain, lines_joined}
 use Rattle.ihex_promises.proofs.Records.{Says, record_says, record_plain, front, take-small}
-use Rattle.ihex_promises.proofs.Texts.{by_lines, length_16, fits, text_kept}
+use Rattle.ihex_promises.proofs.Texts.{by_lines, length-16, fits, text_kept}
 
 -- the array's byte at a place
 abbrev own : List ℕ → Cell
@@ -57,13 +57,13 @@ module _ (array : List ℕ) (upper : ℕ) (line : List ℕ) where
   module _ (at : ℕ) (l : at + 16 ≤ length array) (u : upper ≡ at / 65536) (w : Says line (at % 65536) 0 (take 16 (drop at array))) where
     -- a data record says 16 bytes
     sixteen : length_of line ≡ 16
-    sixteen = w.long ∙ length_16 array at l
+    sixteen = w.long ∙ length-16 array at l
 
     -- they are the array's
     same_byte : (k : ℕ) → at ≤ k → k < at + 16 → data_at line (k - at) ≡ get_or array k 0
     same_byte k p q =
         let e : at + (k - at) ≡ k = omega arith in
-        w.bytes (k - at) (omega (arith, length_16 array at l)) ∙
+        w.bytes (k - at) (omega (arith, length-16 array at l)) ∙
         (get_or-take 16 (drop at array) (k - at) 0 (omega arith) ∙ (get_or-drop at array (k - at) 0 ∙ ap (λ (i : ℕ). get_or array i 0) e))
 
     -- and go where they were
@@ -103,7 +103,7 @@ upper_says next l =
 -- the line of 16 bytes, read
 data_says : (array : List ℕ) → Bytes array → (at : ℕ) → at + 16 ≤ length array → Says (data_line array at) (at % 65536) 0 (take 16 (drop at array))
 data_says array s at l =
-    record_says (at % 65536) 0 (take 16 (drop at array)) (omega arith) (omega arith) (omega (arith, length_16 array at l))
+    record_says (at % 65536) 0 (take 16 (drop at array)) (omega arith) (omega arith) (omega (arith, length-16 array at l))
     (take-small 16 (drop at array) (λ k. rw (get_or-drop at array k 0) (s (at + k))))
 
 -- all lines of an array, read: the upper part is that of the place, or a record of type 04 comes first

@@ -38,8 +38,8 @@ module _ (array : List ℕ) (P : ℕ → List (List ℕ) → Type 0)
     by_lines i = before_end 0 (length array / 16) refl (omega (arith, (array_long (length array) i).1))
 
 -- 16 bytes that the array has
-pub length_16 : (array : List ℕ) (at : ℕ) → at + 16 ≤ length array → length (take 16 (drop at array)) ≡ 16
-length_16 array at l = omega (arith, length-take 16 (drop at array), length-drop at array)
+pub length-16 : (array : List ℕ) (at : ℕ) → at + 16 ≤ length array → length (take 16 (drop at array)) ≡ 16
+length-16 array at l = omega (arith, length-take 16 (drop at array), length-drop at array)
 
 -- the writer's answer, by its two tests
 abbrev answer : Bool → Bool → ℕ → Told

@@ -9,9 +9,9 @@ use Rattle.memories.specs.Sizes.{is_array}
 use Rattle.ihex_read.specs.Reader.{lines_in, place_of, carried, reading, judged_in, reading_of, array_of}
 
 -- a size that is not allowed
-pub size-refused : (text array : List ℕ) → is_array (length array) ≡ false → (reading 18 0 ≡ reading_of text (length array)) × (array ≡ array_of text array)
+pub size_refused : (text array : List ℕ) → is_array (length array) ≡ false → (reading 18 0 ≡ reading_of text (length array)) × (array ≡ array_of text array)
 unfolding reading_of array_of
-size-refused text array e = (rw e, rw e)
+size_refused text array e = (rw e, rw e)
 
 -- an allowed size: the judgement is the answer
 pub judgement : (text : List ℕ) (size : ℕ) → is_array size ≡ true

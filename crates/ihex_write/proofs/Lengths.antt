@@ -8,7 +8,7 @@ use lib.ListN.{length, length-append}
 use Rattle.ihex_layout.specs.Layout.{line_feed}
 use Rattle.ihex_write.specs.Writer.{lines_at, lines_from, joined, text_of, characters_for}
 use Rattle.ihex_write.proofs.Records.{length-line}
-use Rattle.ihex_write.proofs.Rows.{length-first, length_other}
+use Rattle.ihex_write.proofs.Rows.{length-first, length-other}
 
 -- lines and more lines, joined
 pub joined_append : (lines more : List (List ℕ)) → joined (lines ++ more) ≡ joined lines ++ joined more
@@ -27,7 +27,7 @@ length-row array at a h = by (ℕ_discrete (at % 65536) 0)
   where
     by : Dec (at % 65536 ≡ 0) → length (joined (lines_at array at)) + 16 * begun at ≡ 44 + 16 * begun (at + 16)
     by (yes e) = omega (arith, length-first array at h e)
-    by (no e) = omega (arith, length_other array at h e)
+    by (no e) = omega (arith, length-other array at h e)
 
 -- so have n rows, and the end's line 12
 length_from : (array : List ℕ) (at n : ℕ) → at % 16 ≡ 0 → at + 16 * n ≤ length array

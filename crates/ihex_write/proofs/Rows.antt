@@ -13,8 +13,8 @@ use Rattle.ihex_write.proofs.Stores.{Received, one_more}
 use Rattle.ihex_write.proofs.Records.{length-line}
 
 -- the line of type 04 and its LF have 16 characters
-length_upper : (upper : ℕ) → length (upper_line upper ++ line_feed ∷ []) ≡ 16
-length_upper upper = length-line 0 4 (upper / 256 ∷ upper % 256 ∷ [])
+length-upper : (upper : ℕ) → length (upper_line upper ++ line_feed ∷ []) ≡ 16
+length-upper upper = length-line 0 4 (upper / 256 ∷ upper % 256 ∷ [])
 
 module _ (array : List ℕ) (from : ℕ) where
   -- what the row is where 64 KiB begin, and elsewhere
@@ -31,7 +31,7 @@ module _ (array : List ℕ) (from : ℕ) where
       → zs ≡ sets ys (at + 16) (data_line array from ++ line_feed ∷ []) → zs ≡ sets xs at (joined (lines_at array from))
   first_put xs ys zs at e y z =
       let r : Received xs at (upper_line (from / 65536) ++ line_feed ∷ []) ys = record { whole = y } in
-      (one_more r (at + 16) (data_line array from ++ line_feed ∷ []) z (ap (◌+◌ at) (sym (length_upper (from / 65536))))).whole ∙
+      (one_more r (at + 16) (data_line array from ++ line_feed ∷ []) z (ap (◌+◌ at) (sym (length-upper (from / 65536))))).whole ∙
       ap (sets xs at) (sym (row_first e))
 
   pub other_put : (xs ys : List ℕ) (at : ℕ) → from % 65536 ≢ 0 → ys ≡ sets xs at (data_line array from ++ line_feed ∷ [])
@@ -48,7 +48,7 @@ module _ (array : List ℕ) (from : ℕ) where
     pub length-first : from % 65536 ≡ 0 → length (joined (lines_at array from)) ≡ 60
     length-first e =
         ap length (row_first e) ∙
-        (length-append (upper_line (from / 65536) ++ line_feed ∷ []) (data_line array from ++ line_feed ∷ []) ∙ rw (length_upper (from / 65536), length-data))
+        (length-append (upper_line (from / 65536) ++ line_feed ∷ []) (data_line array from ++ line_feed ∷ []) ∙ rw (length-upper (from / 65536), length-data))
 
-    pub length_other : from % 65536 ≢ 0 → length (joined (lines_at array from)) ≡ 44
-    length_other e = ap length (row_other e) ∙ length-data
+    pub length-other : from % 65536 ≢ 0 → length (joined (lines_at array from)) ≡ 44
+    length-other e = ap length (row_other e) ∙ length-data

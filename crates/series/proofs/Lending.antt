@@ -18,14 +18,14 @@ pub length-lent : (n : ℕ) (xs : List ℕ) (behind : ℕ → ℕ) → length (l
 length-lent n xs behind = length-each (λ k x. get_or xs k (behind k)) (replicate n 0) ∙ length-replicate {A = ℕ} n 0
 
 -- within the memory it does not matter what stands for a missing byte
-get_or_within : (xs : List ℕ) (k d e : ℕ) → k < length xs → get_or xs k d ≡ get_or xs k e
-get_or_within [] k d e l = absurd (not-suc-le-zero l)
-get_or_within (x ∷ xs) zero d e l = refl
-get_or_within (x ∷ xs) (suc k) d e l = get_or_within xs k d e (le_of_suc-le-suc l)
+get_or-within : (xs : List ℕ) (k d e : ℕ) → k < length xs → get_or xs k d ≡ get_or xs k e
+get_or-within [] k d e l = absurd (not-suc-le-zero l)
+get_or-within (x ∷ xs) zero d e l = refl
+get_or-within (x ∷ xs) (suc k) d e l = get_or-within xs k d e (le_of_suc-le-suc l)
 
 get_or-lent : (n : ℕ) (xs : List ℕ) (behind : ℕ → ℕ) (k : ℕ) → k < n → k < length xs → get_or (lent_of n xs behind) k 0 ≡ get_or xs k 0
 get_or-lent n xs behind k l m =
-    get_or-each (λ k x. get_or xs k (behind k)) (replicate n 0) k 0 (omega (arith, length-replicate {A = ℕ} n 0)) ∙ get_or_within xs k (behind k) 0 m
+    get_or-each (λ k x. get_or xs k (behind k)) (replicate n 0) k 0 (omega (arith, length-replicate {A = ℕ} n 0)) ∙ get_or-within xs k (behind k) 0 m
 
 -- to lend a memory whole is to lend it as it is
 pub lent_all : (n : ℕ) (xs : List ℕ) (behind : ℕ → ℕ) → n ≡ length xs → lent_of n xs behind ≡ xs

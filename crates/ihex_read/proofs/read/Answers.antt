@@ -1,12 +1,12 @@
 -- `ihex_read::read` meets its contract: the size, the judgement, and only then the array. Assumes nothing.
 use Rattle.std.proofs.Common.{sym, ap, ◌∙◌}
 use Rattle.ihex_read.specs.Reader.{Told}
-use Rattle.ihex_read.proofs.Answers.{size-refused, judgement, text_refused, text_read}
+use Rattle.ihex_read.proofs.Answers.{size_refused, judgement, text_refused, text_read}
 use Rattle.ihex_read.proofs.read.Goals as goal
 
 pub returns-then-not-is_array : goal.returns-then-not-is_array
 returns-then-not-is_array c =
-    let both = size-refused c.args.text.now c.args.array.now (sym c.is_array.ensures ∙ c.if-not-is_array.true) in
+    let both = size_refused c.args.text.now c.args.array.now (sym c.is_array.ensures ∙ c.if-not-is_array.true) in
     record { result_value = both.0; array_after = both.1 }
 
 pub returns-then-number-eq0 : goal.returns-then-number-eq0
