@@ -6,9 +6,8 @@ use mathlib.Core.List.{List, [], ◌∷◌, ◌++◌, map}
 use mathlib.Core.Path.{◌≡◌, refl, sym, ap, ◌∙◌}
 use lib.Bits.{bit_and}
 use lib.ListN.{length}
-use Rattle.runs.specs.Run as run
 use Rattle.runs.proofs.Laws.{end_joined, kept}
-use Rattle.cells.specs.Each.{Cell, each, over}
+use Rattle.cells.specs.Each.{each, over}
 use Rattle.pages.specs.Page.{aimed_at, last}
 use Rattle.cells.proofs.Places.{length-each, each_same, each_then}
 use Rattle.cells.proofs.Laws.{erase_twice}

@@ -12,7 +12,6 @@ use Rattle.cells.specs.Each.{each}
 use Rattle.cells.proofs.Places.{each_same}
 use Rattle.opcodes.specs.Rows.{row_of}
 use Rattle.judge.specs.declared.Action.{Action}
-use Rattle.judge.specs.declared.Outcome.{Outcome}
 use Rattle.opcodes.specs.Kinds.{means_array}
 use Rattle.judge.specs.Begins.{changes_array, ready, lasts}
 use Rattle.judge.proofs.Begins.{exactly_when}

@@ -1,8 +1,6 @@
 -- Each promise of a call, by the law that proves it. Assumes nothing.
-use mathlib.Core.Bool.{Bool}
 use mathlib.Core.Logic.{◌≢◌}
-use mathlib.Core.Path.{◌≡◌, refl, sym, ap, ◌∙◌}
-use Rattle.calls.specs.declared.Lengths.{Lengths}
+use mathlib.Core.Path.{◌≡◌, ap}
 use Rattle.part.specs.Frame.{Call, Lent, lengths_of, number_for, refused, replied, frame}
 use Rattle.part.specs.Promises.{Promises}
 use Rattle.part.proofs.Answers.{one_answer, answer_of, some_answer, refusal_is, not_accepted}

@@ -12,7 +12,7 @@ use Rattle.refusals.specs.Refusals.{number_of}
 use Rattle.calls.specs.Refusal.{refusal_of}
 use Rattle.operations.specs.Operations.{cell_of}
 use Rattle.part.specs.declared.Answer.{Answer}
-use Rattle.part.specs.Frame.{Call, Lent, lengths_of, number_for, risen, facts_of, judged_of, refused, replied, frame}
+use Rattle.part.specs.Frame.{Call, Lent, lengths_of, number_for, risen, facts_of, judged_of, refused, frame}
 use Rattle.part.specs.Frame.{Meets}
 use Rattle.part.specs.Cause.{is_stopped, holds_of, cause_for}
 use Rattle.part.specs.Effect.{takes_effect, operation_of}

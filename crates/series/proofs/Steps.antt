@@ -11,7 +11,6 @@ use lib.Dec.{eqb}
 use Rattle.cells.specs.Each.{each}
 use Rattle.opcodes.specs.Rows.{row_of}
 use Rattle.judge.specs.Begins.{asks_for}
-use Rattle.device.specs.declared.Device.{Device}
 use Rattle.operations.specs.Operations.{Operation, cell_of, on_array, on_register}
 use Rattle.part.specs.Frame.{Call, Lent, facts_of, judged_of, number_for, replied, frame}
 use Rattle.part.specs.Frame as part

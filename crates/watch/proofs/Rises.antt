@@ -13,7 +13,7 @@ use lib.Text.{eqt}
 use Rattle.calls.specs.declared.Signals.{Signals}
 use Rattle.part.specs.Frame.{Reply}
 use Rattle.ledger.specs.Ledger.{Ledger, is_account, at, came_off, turned, charged, booked}
-use Rattle.watch.specs.Watch.{top_before, top, Bounded}
+use Rattle.watch.specs.Watch.{top, Bounded}
 use Rattle.watch.proofs.Bounds.{no_word_above, top_most}
 
 -- one word changes, and none is above the bound

@@ -8,10 +8,6 @@ use lib.Dec.{eqb}
 use lib.ListN.{length}
 use Rattle.runs.specs.Run as run
 use Rattle.runs.proofs.Laws.{end_forgets, kept}
-use Rattle.cells.specs.Each.{each, stored}
-use Rattle.cells.specs.Range.{range}
-use Rattle.device.specs.declared.Device.{Device}
-use Rattle.output.specs.Output.{Store, read_at}
 use Rattle.part.specs.Frame.{Call, Lent, lent, stands_at, judged_of, number_for, frame}
 use Rattle.part.specs.Frame as part
 use Rattle.series.specs.Turns.{call_of, lengths_of, done_of, once_of}
@@ -20,7 +16,7 @@ use Rattle.series.specs.Series.{Step, State, lent_to, result_of, left, results, 
 use Rattle.series.proofs.Lending.{lent_all}
 use Rattle.series.proofs.Steps.{same_lengths, reply_is, done_is, register_is}
 use Rattle.worked.specs.Worked.{Came, came_of}
-use Rattle.worked.proofs.Computed.{Told, Scene, told_store, written, came_told, next, all_told, end_told}
+use Rattle.worked.proofs.Computed.{Scene, told_store, written, came_told, next, all_told, end_told}
 use Rattle.worked.proofs.Told.{memory_of, length-told, goes_on, read_told}
 
 abbrev pub state_of : Scene → State

@@ -2,7 +2,7 @@
 -- list of its bytes. Assumes nothing.
 use Prim.Native.Nat.{ℕ, zero, suc, ◌+◌, ◌-◌, ◌*◌, ◌%◌, ◌<◌, ◌≤◌}
 use mathlib.Core.Bool.{Bool, true, false, cond, ◌&&◌, ◌||◌, and-eq-true_iff}
-use mathlib.Core.List.{List, [], ◌∷◌, ◌++◌}
+use mathlib.Core.List.{List, [], ◌∷◌}
 use mathlib.Core.Path.{◌≡◌, refl, sym, ap, ◌∙◌}
 use native.Mathlib.Nat.{mod-lt, zero-mul}
 use native.Mathlib.Omega.{arith}
@@ -20,12 +20,12 @@ use Rattle.device.specs.declared.Device.{Device}
 use Rattle.judge.specs.declared.Action.{Action}
 use Rattle.judge.specs.declared.Judged.{Judged}
 use Rattle.operations.specs.Operations.{Operation, none, program, erase, cell_of}
-use Rattle.output.specs.Output.{Store, store, store_of, start_of, byte_from, line_at, unclocked, read_at}
+use Rattle.output.specs.Output.{store, store_of, start_of, byte_from, line_at, unclocked, read_at}
 use Rattle.operations.specs.Bytes.{applied, through}
 use Rattle.operations.proofs.Applied.{applied_joined, applied_each, length-applied}
 use Rattle.worked.specs.Worked.{Piece, Content, blank, painted, content_of}
 use Rattle.worked.proofs.Computed.{Told, told, more, first_at, told_store, apart, inside, one_side, steady_for}
-use Rattle.worked.proofs.Computed.{steady_operations, steady_piece, steady_pieces, everywhere, agrees}
+use Rattle.worked.proofs.Computed.{steady_operations, steady_piece, steady_pieces, agrees}
 use Rattle.worked.proofs.Halves.{at_each}
 
 -- the memory

@@ -1,5 +1,5 @@
 -- `ledger::gathered` meets its contract: as long as a table's bits are not above the limit, no word of it so far is. Assumes nothing.
-use Rattle.std.proofs.Common.{◌≡◌, ℕ, ◌≤◌, false, refl, subst, add-one, arith}
+use Rattle.std.proofs.Common.{◌≡◌, ℕ, false, refl, subst, add-one, arith}
 use Rattle.std.proofs.Math.Nat.{le_trans}
 use Rattle.ledger.specs.Ledger.{above_before}
 use Rattle.ledger.proofs.Above.{or_left, or_right, low_next}

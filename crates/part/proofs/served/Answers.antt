@@ -27,13 +27,12 @@ show-requires c =
     let l : length c.args.register.now ≡ 128 = o.register in
     record {
       array_nonzero = ((array_long _ o.array).0, omega arith);
-      driven_in_bounds =
-          (
-            rw (c.judge-judged.ensures, c.facts_of.ensures)
+      driven_in_bounds = (
+        rw (c.judge-judged.ensures, c.facts_of.ensures)
             (within _ c.args.settings (facts_for c.args.input.now c.args.signals _)),
-            o.room,
-            o.fits,
-          );
+        o.room,
+        o.fits,
+      );
     }
 
 pub carry_out-covered-requires : goal.carry_out-covered-requires
