@@ -70,7 +70,7 @@ pub record Worked : Type 0 where
   pub short_upper : judgement ":0100000400FB\n" ≡ verdict 12 0
   -- 13: the checksum is one less than it should be, and the next line, which is none, is not looked at; of another type
   -- too
-  pub wrong_sum_lem : judgement ":00000001FE\n:" ≡ verdict 13 0
+  pub wrong_checksum : judgement ":00000001FE\n:" ≡ verdict 13 0
   pub wrong_sum_first : judgement ":020000021000EB\n" ≡ verdict 13 0
   -- 14: an extended segment address
   pub other_type : judgement ":020000021000EC\n" ≡ verdict 14 0

@@ -16,7 +16,7 @@ use Rattle.ledger_series.specs.Entries.{Entry, Done, calls, last_ledger}
 use Rattle.ledger_series.specs.Operations.{stops, ticks, passed, operations, bills, largest}
 use Rattle.ledger_series.specs.Ledgers.{Whole, Fair, Right, most_after}
 use Rattle.ledger_series.proofs.Tables.{entry_at}
-use Rattle.ledger_series.proofs.Steps.{Stepped, billed}
+use Rattle.ledger_series.proofs.Steps.{Stepped}
 use Rattle.ledger_series.proofs.Folds.{right_step, paid_account, paid_billed, most_billed, off_then, in_the_end}
 
 most_begun : (own : Bool) (most bill : ℕ) (bs : List ℕ) → max (max most (cond own (0 + bill) 0)) (largest bs) ≡ max most (largest (cond own (bill ∷ bs) bs))

@@ -9,7 +9,7 @@ use borrow.Author.Tests.{lt-ltb, ne_eqb}
 use lib.Dec.{eqb}
 use Rattle.device.specs.declared.Device.{Device}
 use Rattle.ledger.specs.declared.Running.{Running}
-use Rattle.ledger.specs.Ledger.{Ledger, is_account, nobody, at, paid}
+use Rattle.ledger.specs.Ledger.{Ledger, is_account, nobody, paid}
 use Rattle.ledger_series.specs.Entries.{Entry, Done, calls, last_ledger}
 use Rattle.ledger_series.specs.Operations.{stops, ticks, passed, sum, busy_ticks}
 use Rattle.ledger_series.specs.Ledgers.{Whole, nobodys}

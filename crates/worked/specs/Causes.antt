@@ -125,8 +125,8 @@ status =
     [])
     ((whole (0x01 ∷ 0x80 ∷ []) 0 ⇒ quiet "begun" (barred false Awake 20000) 2) ∷ [])
 
-abbrev status_two_lem : Bool → Row
-status_two_lem =
+abbrev status_two_row : Bool → Row
+status_two_row =
     told 0x31 ((cut 12 (0x31 ∷ 0x10 ∷ []), "off boundary") ∷ (cut 8 (0x31 ∷ []), "incomplete") ∷ [])
     ((low (0x31 ∷ 0x10 ∷ []) 0 ⇒ quiet "control" (held true true false true true Awake 0) 2) ∷ [])
 
@@ -322,8 +322,8 @@ cause_rows =
     otp false ∷
     status true ∷
     status false ∷
-    status_two_lem true ∷
-    status_two_lem false ∷
+    status_two_row true ∷
+    status_two_row false ∷
     order 0x06 ∷
     order 0x04 ∷
     order 0xB9 ∷

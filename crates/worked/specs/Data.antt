@@ -4,7 +4,7 @@ use Rattle.std.specs.Prelude.{ℕ, Bool, true, false, List, [], ◌∷◌, ◌++
 use Rattle.device.specs.declared.Device.{Device}
 use Rattle.device.specs.declared.Mode.TheVariants.{Awake}
 use Rattle.worked.specs.Worked.{Exchange, Piece, Row}
-use Rattle.worked.specs.Frames.{latched, longer, on_array_lem, above, reads, orders}
+use Rattle.worked.specs.Frames.{latched, longer, array_frames, above, reads, orders}
 use Rattle.worked.specs.Words.{held, stands, idle, enabled, busy, worn, counting, clocked, whole, low, wholes}
 use Rattle.worked.specs.Words.{paced, header, came, quiet, nothing, aborted, begun, ◌⇒◌, unmoved, aborting}
 use Rattle.worked.specs.Words.{piece, rising, bytes, row, lasting, sized, registered}
@@ -212,8 +212,8 @@ data_rows =
     cut_by_four ∷
     cut_by_six ∷
     cut_by_one ∷
-    guarded_array false true on_array_lem ∷
-    guarded_array true true on_array_lem ∷
+    guarded_array false true array_frames ∷
+    guarded_array true true array_frames ∷
     guarded_array true false above ∷
     guarded_array false false above ∷
     programs_four ∷

@@ -22,8 +22,8 @@ abbrev pub longer : List (List ℕ)
 longer = map (λ (frame : List ℕ). frame ++ (0x00 ∷ [])) latched
 
 -- of those the programs and erases of the array
-abbrev pub on_array_lem : List (List ℕ)
-on_array_lem = take 8 latched
+abbrev pub array_frames : List (List ℕ)
+array_frames = take 8 latched
 
 -- those that have an address, at 012345h
 abbrev pub above : List (List ℕ)
