@@ -2,8 +2,11 @@
 // reads, and status byte 1 after the call.
 #![tactic(auto)]
 
-ghost use Rattle.std.specs.Prelude.{◌≡◌, ◌≤◌, ◌<◌, length, IfOk};
-ghost use Rattle.session.specs.Turn.{digit_of, turn_of};
+ghost use Rattle.std.specs.Prelude.{true, ◌≡◌, ◌≤◌, ◌<◌, length, take, IfOk, OnOk};
+ghost use Rattle.std.specs.List.{flat_map};
+ghost use Rattle.std.specs.Io.KnownBytes.{Appends};
+ghost use Rattle.device.specs.Status as status;
+ghost use Rattle.session.specs.Turn.{digit_of, shown, line, turn_of};
 ghost use Rattle.part.specs.Frame.{lent};
 
 use calls::Signals;
@@ -27,12 +30,16 @@ fn digit(value: u8) -> u8
 }
 
 // Writes a byte as two digits, and a blank behind it.
-fn print_byte<W: Write>(out: &mut W, byte: u8) -> io::Result<()> {
+fn print_byte<W: Write>(out: &mut W, byte: u8) -> io::Result<()>
+    ensures { OnOk result (Appends (W.contents out.old) (W.contents out.new) (shown byte)) }
+{
     let text = [digit(byte / 16), digit(byte % 16), b' '];
     out.write_all(&text)
 }
 
-fn print_bytes<W: Write>(out: &mut W, bytes: &[u8]) -> io::Result<()> {
+fn print_bytes<W: Write>(out: &mut W, bytes: &[u8]) -> io::Result<()>
+    ensures { OnOk result (Appends (W.contents out.old) (W.contents out.new) (flat_map shown bytes.now)) }
+{
     for byte in bytes {
         print_byte(out, *byte)?;
     }
@@ -40,7 +47,9 @@ fn print_bytes<W: Write>(out: &mut W, bytes: &[u8]) -> io::Result<()> {
 }
 
 // A line: the bytes of a frame, what the output reads, and status byte 1.
-fn print_line<W: Write>(out: &mut W, input: &[u8], output: &[u8], status: u8) -> io::Result<()> {
+fn print_line<W: Write>(out: &mut W, input: &[u8], output: &[u8], status: u8) -> io::Result<()>
+    ensures { OnOk result (Appends (W.contents out.old) (W.contents out.new) (line input.now output.now status)) }
+{
     print_bytes(out, input)?;
     out.write_all(b"> ")?;
     print_bytes(out, output)?;
@@ -64,6 +73,10 @@ fn turn<W: Write>(
     requires { (length input.now ≤ 8192) × (length input.now ≤ length output.old) }
     ensures value { IfOk result (λ after. after ≡ (turn_of device settings input.now elapsed (lent array.old register.old output.old)).reply.device) }
     ensures output_after { lent array.new register.new output.new ≡ (turn_of device settings input.now elapsed (lent array.old register.old output.old)).lent }
+    ensures printed { let done = turn_of device settings input.now elapsed (lent array.old register.old output.old) in
+        OnOk result
+        (Appends (W.contents out.old) (W.contents out.new)
+        (line input.now (take (length input.now) done.lent.output) (status.status_one done.reply.device true))) }
 {
     let bytes = input.len();
     let signals = Signals {
