@@ -2,11 +2,10 @@
 // reads, and status byte 1 after the call.
 #![tactic(auto)]
 
-ghost use Rattle.std.specs.Prelude.{true, ◌≡◌, ◌≤◌, ◌<◌, length, take, IfOk, OnOk};
+ghost use Rattle.std.specs.Prelude.{◌≡◌, ◌≤◌, ◌<◌, length, IfOk, OnOk};
 ghost use Rattle.std.specs.List.{flat_map};
 ghost use Rattle.std.specs.Io.KnownBytes.{Appends};
-ghost use Rattle.device.specs.Status as status;
-ghost use Rattle.session.specs.Turn.{digit_of, shown, line, turn_of};
+ghost use Rattle.session.specs.Turn.{digit_of, shown, line, turn_of, line_of, session};
 ghost use Rattle.part.specs.Frame.{lent};
 
 use calls::Signals;
@@ -73,10 +72,9 @@ fn turn<W: Write>(
     requires { (length input.now ≤ 8192) × (length input.now ≤ length output.old) }
     ensures value { IfOk result (λ after. after ≡ (turn_of device settings input.now elapsed (lent array.old register.old output.old)).reply.device) }
     ensures output_after { lent array.new register.new output.new ≡ (turn_of device settings input.now elapsed (lent array.old register.old output.old)).lent }
-    ensures printed { let done = turn_of device settings input.now elapsed (lent array.old register.old output.old) in
-        OnOk result
+    ensures printed { OnOk result
         (Appends (W.contents out.old) (W.contents out.new)
-        (line input.now (take (length input.now) done.lent.output) (status.status_one done.reply.device true))) }
+        (line_of device settings input.now elapsed (lent array.old register.old output.old))) }
 {
     let bytes = input.len();
     let signals = Signals {
@@ -91,6 +89,54 @@ fn turn<W: Write>(
     Ok(after)
 }
 
+// The four frames on these memories, and their lines.
+fn session<W: Write>(
+    out: &mut W,
+    device: Device,
+    settings: Settings,
+    array: &mut [u8],
+    register: &mut [u8],
+    output: &mut [u8],
+) -> io::Result<()>
+    requires { 7 ≤ length output.old }
+    ensures { OnOk result
+        (Appends (W.contents out.old) (W.contents out.new)
+        (session device settings (lent array.old register.old output.old))) }
+{
+    let enabled = turn(out, device, settings, array, register, b"\x06", 0, output)?;
+    let busy = turn(
+        out,
+        enabled,
+        settings,
+        array,
+        register,
+        b"\x02\x00\x00\xFE\x11\x22\x33",
+        1,
+        output,
+    )?;
+    let polled = turn(
+        out,
+        busy,
+        settings,
+        array,
+        register,
+        b"\x05\x00\x00",
+        1,
+        output,
+    )?;
+    turn(
+        out,
+        polled,
+        settings,
+        array,
+        register,
+        b"\x03\x00\x00\xFE\x00\x00\x00",
+        2000,
+        output,
+    )?;
+    Ok(())
+}
+
 fn main(rt: HostRuntime) -> io::Result<()> {
     let mut out = io::writer(&rt);
     let mut array = [255u8; 65536];
@@ -100,45 +146,12 @@ fn main(rt: HostRuntime) -> io::Result<()> {
         ticks: [2000, 2000, 7000, 50000, 400000, 1600000, 400, 20000],
     };
     let fresh = Device::fresh(false, false, false);
-    let enabled = turn(
+    session(
         &mut out,
         fresh,
         settings,
         &mut array,
         &mut register,
-        b"\x06",
-        0,
         &mut output,
-    )?;
-    let busy = turn(
-        &mut out,
-        enabled,
-        settings,
-        &mut array,
-        &mut register,
-        b"\x02\x00\x00\xFE\x11\x22\x33",
-        1,
-        &mut output,
-    )?;
-    let polled = turn(
-        &mut out,
-        busy,
-        settings,
-        &mut array,
-        &mut register,
-        b"\x05\x00\x00",
-        1,
-        &mut output,
-    )?;
-    turn(
-        &mut out,
-        polled,
-        settings,
-        &mut array,
-        &mut register,
-        b"\x03\x00\x00\xFE\x00\x00\x00",
-        2000,
-        &mut output,
-    )?;
-    Ok(())
+    )
 }
