@@ -1,4 +1,7 @@
-// What needs no frame.
+// The functions of `face_basics` as C and Rust link them, each under its own name: it hands its arguments on to the library, and promises what
+// the library's function does, in the same clauses.
+#![tactic(auto)]
+
 ghost use Rattle.std.specs.Prelude.{◌≡◌, length};
 ghost use Rattle.face_words.specs.Words.{is_settings, number_if, written_if};
 ghost use Rattle.face_basics.specs.Face as face;

@@ -1,4 +1,7 @@
-// Intel HEX.
+// The functions of `face_hex` as C and Rust link them, each under its own name: it hands its arguments on to the library, and promises what
+// the library's function does, in the same clauses.
+#![tactic(auto)]
+
 ghost use Rattle.std.specs.Prelude.{◌≡◌};
 ghost use Rattle.face_hex.specs.Words.{spoken, text_out, text_in};
 

@@ -1,4 +1,7 @@
-// Frames through the ledger, its close and its report.
+// The functions of `face_ledger` as C and Rust link them, each under its own name: it hands its arguments on to the library, and promises what
+// the library's function does, in the same clauses.
+#![tactic(auto)]
+
 ghost use Rattle.std.specs.Prelude.{◌≡◌};
 ghost use Rattle.part.specs.Frame.{lent};
 ghost use Rattle.face_frame.specs.Words.{handed, left};

@@ -1,4 +1,7 @@
-// A frame.
+// The functions of `face_frame` as C and Rust link them, each under its own name: it hands its arguments on to the library, and promises what
+// the library's function does, in the same clauses.
+#![tactic(auto)]
+
 ghost use Rattle.std.specs.Prelude.{◌≡◌};
 ghost use Rattle.part.specs.Frame.{lent};
 ghost use Rattle.face_frame.specs.Words as words;
