@@ -135,7 +135,7 @@ fn what_a_killed_run_left_is_swept_away() {
     assert!(oxterin(&["run", "--size=65536", "--save", word(&out)], "06\n").status.success());
     assert!(!left[0].exists() && left[1].exists() && fs::symlink_metadata(&link).is_ok());
     assert!(stays.iter().all(|file| fs::read(file).expect("there") == b"half"));
-    drop(busy);
+    busy.unlock().expect("unlocked"); // closed, it stays locked while a process that another test begins still has it
     assert!(oxterin(&["run", "--size=65536", "--save", word(&out)], "06\n").status.success());
     assert!(!left[1].exists());
     assert_eq!(fs::read(&out).expect("saved"), vec![0xFF; 65_536]);
