@@ -11,7 +11,8 @@ use lib.Dec.{leb, ltb}
 use lib.ListN.{length, get_or, set}
 use Rattle.cells.specs.Each.{Cell, each, over}
 use Rattle.cells.specs.Range.{range}
-use Rattle.cells.proofs.Places.{each_alike, each_then, each_set, is_each, length-each, over_in, over_out, over_alike, untouched}
+use Rattle.cells.proofs.Places.{each_alike, each_then, each_set, is_each, length-each, over_in, over_out, over_alike}
+use Rattle.cells.proofs.Places.{untouched}
 
 -- a place of the range, and the three kinds of place: in it, before it, behind it
 pub range_in : (a b k : ℕ) → a ≤ k → k < b → range a b k ≡ true

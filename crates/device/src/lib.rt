@@ -5,7 +5,8 @@
 pub mod status;
 
 ghost use Rattle.std.specs.Prelude.{cond, ◌≡◌};
-ghost use Rattle.device.specs.Device.{fresh, awake, deep, ultra_deep, is_busy, unsound, passed, latched, dropped, moved, woken, working, reset, marked, written, enabled};
+ghost use Rattle.device.specs.Device.{fresh, awake, deep, ultra_deep, is_busy, unsound, passed, latched, dropped};
+ghost use Rattle.device.specs.Device.{moved, woken, working, reset, marked, written, enabled};
 
 use settings::LONGEST;
 

@@ -1,13 +1,13 @@
-// The functions of `face_frame` as C and Rust link them, each under its own name: it hands its arguments on to the library, and promises what
-// the library's function does, in the same clauses.
+// The functions of `face_frame` as C and Rust link them, each under its own name: it hands its arguments on to the
+// library, and promises what the library's function does, in the same clauses.
 #![tactic(auto)]
 
 ghost use Rattle.std.specs.Prelude.{◌≡◌};
 ghost use Rattle.part.specs.Frame.{lent};
 ghost use Rattle.face_frame.specs.Words as words;
 
-// One call, one chip-select frame: its number is the refusal's, 0 if the call is accepted. The record's words become those of the record
-// as it then stands.
+// One call, one chip-select frame: its number is the refusal's, 0 if the call is accepted. The record's words become
+// those of the record as it then stands.
 #[unsafe(no_mangle)]
 pub extern "C" fn oxterin_frame(
     device: &mut [u64],

@@ -21,7 +21,8 @@ use Rattle.face_words.specs.Words.{is_record, device_of, as_lent, packed, writte
 use Rattle.face_words.proofs.Records.{lent_whole, written_whole, record_whole, written_back, is_record_lem, same_record}
 use Rattle.face_frame.specs.Words.{Handed, call_of}
 use Rattle.face_frame.proofs.Words.{record_read, enough}
-use Rattle.face_ledger.specs.Words.{Ticket, LeftFor, is_running, running_of, running_words, ledger_of, is_call_for, told, unread, faced, is_report, report_number, report_words}
+use Rattle.face_ledger.specs.Words.{Ticket, LeftFor, is_running, running_of, running_words, ledger_of, is_call_for}
+use Rattle.face_ledger.specs.Words.{told, unread, faced, is_report, report_number, report_words}
 use Rattle.face_ledger.specs.Words.{Tables, closed_with, closing}
 use Rattle.face_ledger.proofs.Words.{stands}
 

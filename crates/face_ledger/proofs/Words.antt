@@ -13,7 +13,8 @@ use Rattle.ledger.specs.Ledger.{Ledger, ledger, closed}
 use Rattle.ledger_frame.specs.Frame.{frame, Meets}
 use Rattle.face_words.specs.Words.{as_lent, packed, device_of, settings_of, signals_of, answer_of}
 use Rattle.face_frame.specs.Words.{Handed, is_call, call_of, left}
-use Rattle.face_ledger.specs.Words.{Ticket, is_running, running_of, running_words, ledger_of, is_call_for, left_for, told}
+use Rattle.face_ledger.specs.Words.{Ticket, is_running, running_of, running_words, ledger_of, is_call_for, left_for}
+use Rattle.face_ledger.specs.Words.{told}
 use Rattle.face_ledger.specs.Words.{Tables, tables, tables_of, closed_with, closing}
 
 -- they stand for a call of the part, and for a running operation

@@ -1,5 +1,5 @@
-// The functions of `face_ledger` as C and Rust link them, each under its own name: it hands its arguments on to the library, and promises what
-// the library's function does, in the same clauses.
+// The functions of `face_ledger` as C and Rust link them, each under its own name: it hands its arguments on to the
+// library, and promises what the library's function does, in the same clauses.
 #![tactic(auto)]
 
 ghost use Rattle.std.specs.Prelude.{◌≡◌};

@@ -11,7 +11,9 @@ use lib.ListN.{length, get_or}
 use lib.Seq.{take_all}
 use Rattle.device.specs.declared.Device.{Device}
 use Rattle.device.specs.declared.Mode.{Mode}
-use Rattle.face_words.specs.Words.{record_words, settings_words, is_lent, record_lent, as_lent, word_of, is_flag, flag_of, mode_number, is_mode, mode_of, packed, is_record, device_of, is_settings, settings_of}
+use Rattle.face_words.specs.Words.{record_words, settings_words, is_lent, record_lent, as_lent, word_of, is_flag}
+use Rattle.face_words.specs.Words.{flag_of, mode_number, is_mode, mode_of, packed, is_record, device_of, is_settings}
+use Rattle.face_words.specs.Words.{settings_of}
 
 -- the words of a list from a place on, so many of them
 spelled : ℕ → ℕ → List ℕ → List ℕ

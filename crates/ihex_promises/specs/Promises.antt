@@ -1,6 +1,7 @@
 -- What follows from the contracts of `write` and `read`: the round trip, which HEX record a byte is of, and which texts
 -- are alike. Assumes nothing.
-use Rattle.std.specs.Prelude.{ℕ, ◌-◌, ◌<◌, ◌≤◌, Bool, true, false, cond, ◌||◌, List, [], ◌∷◌, ◌++◌, map, ◌≢◌, ◌≡◌, eqb, length, get_or, take}
+use Rattle.std.specs.Prelude.{ℕ, ◌-◌, ◌<◌, ◌≤◌, Bool, true, false, cond, ◌||◌, List, [], ◌∷◌, ◌++◌, map, ◌≢◌, ◌≡◌, eqb}
+use Rattle.std.specs.Prelude.{length, get_or, take}
 use Rattle.cells.specs.Range.{range}
 use Rattle.memories.specs.Sizes.{is_array}
 use Rattle.ihex_layout.specs.Layout.{line_feed, carriage_return, data_at}

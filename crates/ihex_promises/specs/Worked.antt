@@ -4,7 +4,8 @@ use Prim.Native.Char.{code}
 use Prim.Native.String.{String, [], ◌∷◌}
 use Rattle.ihex_layout.specs.Layout.{record_line}
 use Rattle.ihex_write.specs.Writer.{written, written_of}
-use Rattle.ihex_read.specs.Reader.{Verdict, verdict, lines_in, place_of, judged_in, carried, reading, reading_of, array_of}
+use Rattle.ihex_read.specs.Reader.{Verdict, verdict, lines_in, place_of, judged_in, carried, reading, reading_of}
+use Rattle.ihex_read.specs.Reader.{array_of}
 use Rattle.ihex_promises.specs.Named.{uppers_after, names, any_names}
 
 -- the characters of a text

@@ -11,7 +11,8 @@ use lib.ListN.{length, drop, length-drop, drop_of_length-le}
 use Rattle.cells.specs.Each.{each}
 use Rattle.cells.proofs.Places.{length-each}
 use Rattle.ihex_layout.specs.Layout.{kind_of}
-use Rattle.ihex_read.specs.Reader.{Told, lines_in, line_at, place_of, fault_of, upper_behind, Verdict, verdict, ended, judged, start_of, laid, obeyed, carried, reading, judged_in}
+use Rattle.ihex_read.specs.Reader.{Told, lines_in, line_at, place_of, fault_of, upper_behind, Verdict, verdict, ended}
+use Rattle.ihex_read.specs.Reader.{judged, start_of, laid, obeyed, carried, reading, judged_in}
 use Rattle.ihex_read.proofs.Lines.{lines_at_lem, place_long, place_next, place_some}
 
 -- the walk has come to a line that begins at `at`; what is judged from there on decides

@@ -1,11 +1,13 @@
 -- The reader: the text's lines, why a line is refused, and what the records do to the array. Everything is judged first. Assumes nothing.
-use Rattle.std.specs.Prelude.{ℕ, zero, suc, ◌+◌, ◌-◌, ◌*◌, ◌%◌, Bool, true, cond, not, ◌&&◌, ◌||◌, List, [], ◌∷◌, ltb, eqb, length, get_or, drop}
+use Rattle.std.specs.Prelude.{ℕ, zero, suc, ◌+◌, ◌-◌, ◌*◌, ◌%◌, Bool, true, cond, not, ◌&&◌, ◌||◌, List, [], ◌∷◌, ltb}
+use Rattle.std.specs.Prelude.{eqb, length, get_or, drop}
 use Rattle.cells.specs.Each.{Cell, each, stored}
 use Rattle.cells.specs.Range.{range}
 use Rattle.memories.specs.Sizes.{is_array}
 use Rattle.refusals.specs.Refusals.{number_of}
 use Rattle.ihex_read.specs.declared.Reading.{Reading}
-use Rattle.ihex_layout.specs.Layout.{colon, line_feed, carriage_return, byte_at, length_of, address_of, kind_of, data_at, asked, sum_of}
+use Rattle.ihex_layout.specs.Layout.{colon, line_feed, carriage_return, byte_at, length_of, address_of, kind_of}
+use Rattle.ihex_layout.specs.Layout.{data_at, asked, sum_of}
 
 -- one character more at the front of the first line
 abbrev pub headed : ℕ → List (List ℕ) → List (List ℕ)

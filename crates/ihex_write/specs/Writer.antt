@@ -1,6 +1,7 @@
 -- The writer: for each 64 KiB of the array a record of type 04, then data records of 16 bytes, the end record behind them, one LF after
 -- each. Assumes nothing.
-use Rattle.std.specs.Prelude.{ℕ, zero, suc, ◌+◌, ◌*◌, ◌/◌, ◌%◌, cond, not, List, [], ◌∷◌, ◌++◌, ltb, eqb, length, take, drop}
+use Rattle.std.specs.Prelude.{ℕ, zero, suc, ◌+◌, ◌*◌, ◌/◌, ◌%◌, cond, not, List, [], ◌∷◌, ◌++◌, ltb, eqb, length, take}
+use Rattle.std.specs.Prelude.{drop}
 use Rattle.std.proofs.lemmas.List.Edits.{sets}
 use Rattle.memories.specs.Sizes.{is_array}
 use Rattle.refusals.specs.Refusals.{number_of}

@@ -6,7 +6,8 @@ ghost use Rattle.std.specs.Prelude.{[], ◌∷◌, ◌++◌, ◌≡◌, ◌+◌,
 ghost use Rattle.std.proofs.lemmas.List.Edits.{sets};
 ghost use Rattle.ihex_layout.specs.Layout as layout;
 ghost use Rattle.ihex_layout.specs.Layout.{line_feed, digits, sum, record_line};
-ghost use Rattle.ihex_write.specs.Writer.{upper_line, lines_at, joined, text_of, characters_for, told, written_of, output_of};
+ghost use Rattle.ihex_write.specs.Writer.{upper_line, lines_at, joined, text_of, characters_for, told, written_of};
+ghost use Rattle.ihex_write.specs.Writer.{output_of};
 
 use memories::is_array;
 use refusals::Refusal;

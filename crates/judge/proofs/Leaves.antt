@@ -142,10 +142,10 @@ as_asked d s f = each_kind d s f (Faithful f) (λ o e c. absurd (false≢true c)
 
 -- what is begun
 abbrev is_begun : Outcome → Bool
-is_begun (Outcome.Nothing cause) = false
+is_begun (Outcome.Nothing _) = false
 is_begun Outcome.Read = false
 is_begun Outcome.Control = false
-is_begun (Outcome.Aborted cause) = false
+is_begun (Outcome.Aborted _) = false
 is_begun Outcome.Begun = true
 
 -- was a command that needs WEL: of such a one what holds of each of these commands holds

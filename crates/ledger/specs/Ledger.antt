@@ -1,5 +1,6 @@
 -- The ledger: what each account was billed, and what one call makes of it. Assumes nothing.
-use Rattle.std.specs.Prelude.{ℕ, zero, suc, ◌+◌, min, max, Bool, false, cond, not, ◌||◌, List, ltb, eqb, get_or, set, replicate}
+use Rattle.std.specs.Prelude.{ℕ, zero, suc, ◌+◌, min, max, Bool, false, cond, not, ◌||◌, List, ltb, eqb, get_or, set}
+use Rattle.std.specs.Prelude.{replicate}
 use lib.Text.{eqt}
 use Rattle.calls.specs.declared.Signals.{Signals}
 use Rattle.refusals.specs.declared.Refusal.{Refusal}

@@ -5,7 +5,7 @@
 ghost use Rattle.std.specs.Prelude.{◌≡◌};
 ghost use Rattle.part.specs.Frame.{call, lent, reply_of};
 ghost use Rattle.ledger.specs.Ledger as spec;
-ghost use Rattle.watch.specs.Watch.{Bounded};
+ghost use Rattle.watch.specs.Watch.{Bounded, watched, raised};
 ghost use Rattle.ledger_frame.specs.Frame as through;
 
 use calls::Signals;
@@ -136,6 +136,7 @@ pub fn frame_watched(
         (spec.ledger totals.old most.old numbers.old running) (reply_of result.booked.answer)
         (lent array.new register.new output.new)
         (spec.ledger totals.new most.new numbers.new result.booked.running) }
+    ensures bound_after { result.bound ≡ raised (watched bound totals.old numbers.old) }
     ensures bounded { Bounded result.bound
         (spec.ledger totals.new most.new numbers.new result.booked.running) }
 {

@@ -16,7 +16,8 @@ use Rattle.series.specs.Turns.{call_of, lengths_of}
 use Rattle.series.proofs.Turns.{refused_reply}
 use Rattle.ledger.specs.Ledger.{Ledger, shut, booked}
 use Rattle.ledger_frame.specs.Frame.{shut_out, replied}
-use Rattle.ledger_series.specs.Entries.{Entry, reply_to, ledger_by, done_of, books, next, calls, last_record, last_ledger, turns_through}
+use Rattle.ledger_series.specs.Entries.{Entry, reply_to, ledger_by, done_of, books, next, calls, last_record}
+use Rattle.ledger_series.specs.Entries.{last_ledger, turns_through}
 
 module _ (e : Entry) (d : Device) (l : Ledger) where
   abbrev c : Call

@@ -20,7 +20,8 @@ use Rattle.series.proofs.Steps.{same_lengths}
 use Rattle.ledger.specs.Ledger.{booked}
 use Rattle.ledger_frame.specs.Frame.{Result, shut_out, replied, frame}
 use Rattle.ledger_series.specs.Entries as entries
-use Rattle.ledger_series.specs.Entries.{Entry, Done, Books, entry, books, reply_to, ledger_by, calls, last_record, last_ledger, turns_through}
+use Rattle.ledger_series.specs.Entries.{Entry, Done, Books, entry, books, reply_to, ledger_by, calls, last_record}
+use Rattle.ledger_series.specs.Entries.{last_ledger, turns_through}
 use Rattle.ledger_series.specs.Series.{Booking, Desk, Made, entries_of, result_of, left, next, results, end}
 use Rattle.ledger_series.specs.Series.{let_through, steps_through, result_through, results_through, made_of, Ran}
 use Rattle.ledger_series.specs.Promises.{answers_of}

@@ -19,7 +19,8 @@ use Rattle.ledger_frame.specs.Frame.{Result}
 use Rattle.ledger_frame.proofs.Frames.{nine_exactly}
 use Rattle.ledger_series.specs.Entries.{last_ledger}
 use Rattle.ledger_series.specs.Operations.{sum, largest}
-use Rattle.ledger_series.specs.Series.{Booking, Desk, Made, entries_of, result_of, left, next, results, end, steps_through, made_of, Ran}
+use Rattle.ledger_series.specs.Series.{Booking, Desk, Made, entries_of, result_of, left, next, results, end}
+use Rattle.ledger_series.specs.Series.{steps_through, made_of, Ran}
 use Rattle.ledger_series.specs.Promises.{Promises, bills_in, effects}
 use Rattle.ledger_series.proofs.Entries.{one_entry}
 use Rattle.ledger_series.proofs.Bills.{right_empty, right_closed, from_empty, from_closed, all_together}

@@ -14,7 +14,8 @@ use Rattle.judge.specs.Begins.{changes_array}
 use Rattle.memories.specs.Sizes.{is_array}
 use Rattle.memories.proofs.Long.{array_long}
 use Rattle.calls.specs.Address.{address_of}
-use Rattle.operations.specs.Operations.{Operation, none, program, erase, cell_of, block_of, width_of, on_array, range_of}
+use Rattle.operations.specs.Operations.{Operation, none, program, erase, cell_of, block_of, width_of, on_array}
+use Rattle.operations.specs.Operations.{range_of}
 use Rattle.operations.proofs.Blocks.{block_inside}
 
 -- a byte outside the range stays

@@ -23,7 +23,8 @@ use Rattle.calls.proofs.Refused.{not_the_ledgers}
 use Rattle.operations.specs.declared.Range.{Range}
 use Rattle.part.specs.declared.Answer.{Answer}
 use Rattle.part.specs.Words.{word_of, cause_in}
-use Rattle.part.specs.Frame.{Call, Lent, Reply, Result, lengths_of, number_for, judged_of, covered_by, answered, refused, replied, frame, reply_of, result_of, refusing, Meets}
+use Rattle.part.specs.Frame.{Call, Lent, Reply, Result, lengths_of, number_for, judged_of, covered_by, answered}
+use Rattle.part.specs.Frame.{refused, replied, frame, reply_of, result_of, refusing, Meets}
 
 -- the cause of its words, and the outcome of its word with a cause
 cause_from : String → Cause

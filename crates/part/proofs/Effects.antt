@@ -18,7 +18,8 @@ use Rattle.judge.proofs.Begins.{exactly_when}
 use Rattle.judge.proofs.Leaves.{as_asked, begun_acts, full_duration}
 use Rattle.part.specs.Words.{word_of}
 use Rattle.operations.specs.Operations.{cell_of, on_array}
-use Rattle.part.specs.Frame.{Call, Lent, lengths_of, number_for, risen, facts_of, judged_of, covered_by, answered, refused, replied, frame}
+use Rattle.part.specs.Frame.{Call, Lent, lengths_of, number_for, risen, facts_of, judged_of, covered_by, answered}
+use Rattle.part.specs.Frame.{refused, replied, frame}
 use Rattle.part.specs.Effect.{takes_effect, operation_of}
 use Rattle.part.proofs.Answers.{begun_tells}
 

@@ -13,7 +13,8 @@ use Rattle.operations.specs.declared.Range.{Range}
 use Rattle.operations.specs.Operations.{cell_of, on_array, on_register}
 use Rattle.output.specs.Output.{store, read_at}
 use Rattle.output.specs.Time.{standing}
-use Rattle.part.specs.Frame.{Call, Lent, lent, lengths_of, timed, risen, facts_for, judged_of, covered_by, answered, served}
+use Rattle.part.specs.Frame.{Call, Lent, lent, lengths_of, timed, risen, facts_for, judged_of, covered_by, answered}
+use Rattle.part.specs.Frame.{served}
 
 -- from the record at the first bit, that at the rise, and what was judged of the two
 pub together : (c : Call) (m : Lent) (d r : Device) (j : Judged) (covered : Range) (array register output : List ℕ) → d ≡ timed c → r ≡ risen c

@@ -9,7 +9,8 @@ use Rattle.judge.specs.Judging.{judged}
 use Rattle.refusals.specs.Refusals.{number_of}
 use Rattle.calls.specs.Refusal.{bytes_for, refusal_of}
 use Rattle.output.specs.Time.{standing}
-use Rattle.part.specs.Frame.{Call, Lent, Result, lengths_of, timed, facts_of, covered_by, answered, refused, lent_by, number_for, judged_of, replied, frame}
+use Rattle.part.specs.Frame.{Call, Lent, Result, lengths_of, timed, facts_of, covered_by, answered, refused, lent_by}
+use Rattle.part.specs.Frame.{number_for, judged_of, replied, frame}
 use Rattle.part.specs.Frozen.{paced, frozen}
 
 -- positions that take no ticks leave the record as it stands

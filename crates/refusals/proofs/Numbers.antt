@@ -8,7 +8,9 @@ use native.Mathlib.Omega.{arith}
 use lib.ListN.{get_or}
 use Rattle.numbers.proofs.Tells.{tells}
 use Rattle.refusals.specs.declared.Refusal.{Refusal}
-use Rattle.refusals.specs.declared.Refusal.TheVariants.{Accepted, ArrayLength, RegisterLength, InputLength, BitCount, OutputLength, Record, Duration, Pace, Account, HexRecord, HexChecksum, HexType, HexOutside, HexEnd, HexRoom, HexLength}
+use Rattle.refusals.specs.declared.Refusal.TheVariants.{Accepted, ArrayLength, RegisterLength, InputLength, BitCount}
+use Rattle.refusals.specs.declared.Refusal.TheVariants.{OutputLength, Record, Duration, Pace, Account, HexRecord}
+use Rattle.refusals.specs.declared.Refusal.TheVariants.{HexChecksum, HexType, HexOutside, HexEnd, HexRoom, HexLength}
 use Rattle.refusals.specs.Refusals.{number_of}
 
 -- the refusal of a number; 10 and 11 are still to come

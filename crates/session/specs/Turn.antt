@@ -12,7 +12,8 @@ digit_of value = cond (ltb value 10) (0x30 + value) (0x37 + value)
 
 -- a frame of whole bytes, WP high, that takes no time
 abbrev pub turn_of : Device → Settings → List ℕ → ℕ → Lent → Result
-turn_of d s input elapsed m = frame (call d s input (record { bits = 8 * length input; wp = true; elapsed = elapsed; pace = 0 })) m
+turn_of d s input elapsed m =
+    frame (call d s input (record { bits = 8 * length input; wp = true; elapsed = elapsed; pace = 0 })) m
 
 -- a byte in a line: its two digits, and a blank behind them
 abbrev pub shown : ℕ → List ℕ

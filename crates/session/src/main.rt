@@ -1,5 +1,5 @@
-// The built-in session: four frames on a small part whose programs take 2,000 ticks each. A line gives a frame's bytes, what the output
-// reads, and status byte 1 after the call.
+// The built-in session: four frames on a small part whose programs take 2,000 ticks each. A line gives a frame's
+// bytes, what the output reads, and status byte 1 after the call.
 #![tactic(auto)]
 
 ghost use Rattle.std.specs.Prelude.{◌≡◌, ◌≤◌, ◌<◌, length, IfOk, OnOk};
@@ -57,8 +57,8 @@ fn print_line<W: Write>(out: &mut W, input: &[u8], output: &[u8], status: u8) ->
     out.write_all(&text)
 }
 
-// One frame of whole bytes with WP high that takes no time, and then its line; the record comes back. Where the line could not be written,
-// the memories are as the frame left them.
+// One frame of whole bytes with WP high that takes no time, and then its line; the record comes back. Where the line
+// could not be written, the memories are as the frame left them.
 fn turn<W: Write>(
     out: &mut W,
     device: Device,
@@ -70,8 +70,11 @@ fn turn<W: Write>(
     output: &mut [u8],
 ) -> io::Result<Device>
     requires { (length input.now ≤ 8192) × (length input.now ≤ length output.old) }
-    ensures value { IfOk result (λ after. after ≡ (turn_of device settings input.now elapsed (lent array.old register.old output.old)).reply.device) }
-    ensures output_after { lent array.new register.new output.new ≡ (turn_of device settings input.now elapsed (lent array.old register.old output.old)).lent }
+    ensures value { IfOk result
+        (λ after. after ≡
+        (turn_of device settings input.now elapsed (lent array.old register.old output.old)).reply.device) }
+    ensures output_after { lent array.new register.new output.new ≡
+        (turn_of device settings input.now elapsed (lent array.old register.old output.old)).lent }
     ensures printed { OnOk result
         (Appends (W.contents out.old) (W.contents out.new)
         (line_of device settings input.now elapsed (lent array.old register.old output.old))) }

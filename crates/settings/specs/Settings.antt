@@ -2,7 +2,8 @@
 use Rattle.std.specs.Prelude.{ℕ, Bool, false, ◌||◌, List, [], ◌∷◌, ltb, eqb, get_or}
 use Rattle.settings.specs.declared.Settings.{Settings}
 use Rattle.settings.specs.declared.Kind.{Kind}
-use Rattle.settings.specs.declared.Kind.TheVariants.{ByteProgram, LongerProgram, PageErase, SmallErase, LargeErase, ChipErase, OtpProgram, StatusWrite}
+use Rattle.settings.specs.declared.Kind.TheVariants.{ByteProgram, LongerProgram, PageErase, SmallErase, LargeErase}
+use Rattle.settings.specs.declared.Kind.TheVariants.{ChipErase, OtpProgram, StatusWrite}
 
 -- the most ticks that an operation may take
 abbrev pub longest : ℕ

@@ -33,7 +33,8 @@ no_word_above (suc n) k totals numbers l = by (ℕ_discrete k n) (no_word_above 
 
 -- and the largest is at most what no word is above
 pub top_most : (n bound : ℕ) (totals numbers : List ℕ)
-    → ((k : ℕ) → k < n → (get_or totals k 0 ≤ bound) × (get_or numbers k 0 ≤ bound)) → top_before n totals numbers ≤ bound
+    → ((k : ℕ) → k < n → (get_or totals k 0 ≤ bound) × (get_or numbers k 0 ≤ bound))
+    → top_before n totals numbers ≤ bound
 unfolding top_before
 top_most zero bound totals numbers low = omega arith
 top_most (suc n) bound totals numbers low =
@@ -46,7 +47,8 @@ pub top_above : (n : ℕ) (totals numbers : List ℕ)
     → ltb limit (top_before n totals numbers) ≡ above_before n totals || above_before n numbers
 unfolding top_before above_before
 top_above zero totals numbers = refl
-top_above (suc n) totals numbers = by (dec_lt limit a) (dec_lt limit b) (above_before n totals) (above_before n numbers) (top_above n totals numbers)
+top_above (suc n) totals numbers = by (dec_lt limit a) (dec_lt limit b) (above_before n totals) (above_before n numbers)
+    (top_above n totals numbers)
   where
     a : ℕ
     a = get_or totals n 0
@@ -62,7 +64,8 @@ top_above (suc n) totals numbers = by (dec_lt limit a) (dec_lt limit b) (above_b
     by (yes p) q x y e = rw (lt-ltb limit a p, lt-ltb limit (max (max a b) t) (omega arith))
     by (no p) (yes q) x y e =
         rw (lt-ltb limit b q, lt-ltb limit (max (max a b) t) (omega arith), or-true (ltb limit a || x))
-    by (no p) (no q) x y e = rw (le-ltb limit a (omega arith), le-ltb limit b (omega arith)) (lower (dec_lt limit t) ∙ e)
+    by (no p) (no q) x y e = rw (le-ltb limit a (omega arith), le-ltb limit b (omega arith))
+        (lower (dec_lt limit t) ∙ e)
       where
         lower : Dec (limit < t) → ltb limit (max (max a b) t) ≡ ltb limit t
         lower (yes l) = rw (lt-ltb limit t l, lt-ltb limit (max (max a b) t) (omega arith))

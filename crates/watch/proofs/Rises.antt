@@ -17,7 +17,8 @@ use Rattle.watch.specs.Watch.{top, Bounded}
 use Rattle.watch.proofs.Bounds.{no_word_above, top_most}
 
 -- one word changes, and none is above the bound
-set-low : (table : List ℕ) (place k v bound : ℕ) → get_or table k 0 ≤ bound → v ≤ bound → get_or (set table place v) k 0 ≤ bound
+set-low : (table : List ℕ) (place k v bound : ℕ) → get_or table k 0 ≤ bound → v ≤ bound
+    → get_or (set table place v) k 0 ≤ bound
 set-low [] place k v bound old new = old
 set-low (x ∷ xs) zero zero v bound old new = new
 set-low (x ∷ xs) zero (suc k) v bound old new = old
@@ -54,8 +55,10 @@ rises bound busy signals r account l low short = by (eqb r.refusal 0) refl
         → Bounded (bound + 60000000) (turned begun idle account (charged ticks l))
     after ticks few begun idle = top_most 256 (bound + 60000000) _ _ (λ k m. words begun idle k m)
       where
-        paid : (k : ℕ) → k < 256 → get_or (at l.running.account (λ total. total + ticks) l.totals) k 0 ≤ bound + 60000000
-        paid k m = at_low l.running.account k bound 60000000 (λ total. total + ticks) l.totals (λ x. omega (arith, few)) (λ j n. (fresh j n).0) m
+        paid : (k : ℕ) → k < 256 → get_or (at l.running.account
+            (λ total. total + ticks) l.totals) k 0 ≤ bound + 60000000
+        paid k m = at_low l.running.account k bound 60000000 (λ total. total + ticks) l.totals (λ x. omega (arith, few))
+            (λ j n. (fresh j n).0) m
 
         more : (k : ℕ) → k < 256 → get_or (at account suc l.numbers) k 0 ≤ bound + 60000000
         more k m = at_low account k bound 60000000 suc l.numbers (λ x. omega arith) (λ j n. (fresh j n).1) m

@@ -1,4 +1,5 @@
--- `face_frame::oxterin_frame` meets its contract: words that stand for a call are told, others change nothing. Assumes nothing.
+-- `face_frame::oxterin_frame` meets its contract: words that stand for a call are told, others change nothing.
+-- Assumes nothing.
 use Rattle.face_frame.specs.Words.{faced}
 use Rattle.face_frame.proofs.oxterin_frame.Goals as goal
 

@@ -9,8 +9,13 @@ pub returns-then-place-eq1 : goal.returns-then-place-eq1
 unfolding text_in
 returns-then-place-eq1 c =
     let done = c.read-reading.ensures.result_value in
-    rw
-    (c.as_word.ensures, c.number.ensures, ap (λ (t : Told). t.refusal) done, ap (λ (t : Told). t.place) done, c.read-reading.ensures.array_after)
+    rw (
+      c.as_word.ensures,
+      c.number.ensures,
+      ap (λ (t : Told). t.refusal) done,
+      ap (λ (t : Told). t.place) done,
+      c.read-reading.ensures.array_after,
+    )
     (answers c.args.place.now _ _ _ _ c.if-place-eq1.true)
 
 pub returns : goal.returns

@@ -9,8 +9,13 @@ pub returns-then-characters-eq1 : goal.returns-then-characters-eq1
 unfolding text_out
 returns-then-characters-eq1 c =
     let done = c.write-written.ensures.result_value in
-    rw
-    (c.as_word.ensures, c.number.ensures, ap (λ (t : Told). t.refusal) done, ap (λ (t : Told). t.characters) done, c.write-written.ensures.output_after)
+    rw (
+      c.as_word.ensures,
+      c.number.ensures,
+      ap (λ (t : Told). t.refusal) done,
+      ap (λ (t : Told). t.characters) done,
+      c.write-written.ensures.output_after,
+    )
     (answers c.args.characters.now _ _ _ _ c.if-characters-eq1.true)
 
 pub returns : goal.returns

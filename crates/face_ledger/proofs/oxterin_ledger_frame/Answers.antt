@@ -1,4 +1,5 @@
--- `face_ledger::oxterin_ledger_frame` meets its contract: words that stand for a call are told, others change nothing. Assumes nothing.
+-- `face_ledger::oxterin_ledger_frame` meets its contract: words that stand for a call are told, others change
+-- nothing. Assumes nothing.
 use Rattle.face_ledger.specs.Words.{faced}
 use Rattle.face_ledger.proofs.oxterin_ledger_frame.Goals as goal
 

@@ -13,7 +13,9 @@ returns c =
     let t = ticket c.args.account c.args.running.now c.args.totals.now c.args.most.now c.args.numbers.now in
     let right = stands h t c.requires in
     let room = enough h right.0 in
-    as_told_for h t (lent c.args.array.now c.args.register.now c.args.output.now) _ _ _ _ _ c.frame_for-booked.result _ _ _ _ _ _ _
+    as_told_for h t (lent c.args.array.now c.args.register.now c.args.output.now) _ _ _ _ _ c.frame_for-booked.result _
+    _ _ _ _ _ _
     c.device_of-known.ensures c.settings_of-durations.ensures c.signals_of-levels.ensures c.running_of-before.ensures
     c.frame_for-booked.ensures c.reply.ensures.value
-    (c.reply.ensures.device_after ∙ rw room.0) (c.reply.ensures.answer_after ∙ rw room.1) (c.put_running.ensures ∙ rw right.1)
+    (c.reply.ensures.device_after ∙ rw room.0) (c.reply.ensures.answer_after ∙ rw room.1)
+    (c.put_running.ensures ∙ rw right.1)

@@ -29,8 +29,11 @@ end_at-requires c = rw c.next_line-next.ensures (next_inside c.loop-at.invariant
 pub returns-then-byte_at-eq1 : goal.returns-then-byte_at-eq1
 returns-then-byte_at-eq1 c =
     let good = sym c.fault_of-fault.ensures ∙ (sym c.number.ensures ∙ c.if-number-ne0.false) in
-    let kind = sym (read_byte c.args.text.now c.loop-at.at (sound_whole _ (sound _ _ _ good)) 3 (omega arith) c.byte_at.ensures.value) in
-    c.end_at.ensures ∙ rw c.next_line-next.ensures (ends_at c.loop-at.invariant c.loop-at-test.true good (kind ∙ c.if-byte_at-eq1.true))
+    let kind =
+    sym (read_byte c.args.text.now c.loop-at.at (sound_whole _ (sound _ _ _ good)) 3
+    (omega arith) c.byte_at.ensures.value) in
+    c.end_at.ensures ∙ rw c.next_line-next.ensures (ends_at c.loop-at.invariant c.loop-at-test.true good
+    (kind ∙ c.if-byte_at-eq1.true))
 
 pub upper_behind-upper-requires : goal.upper_behind-upper-requires
 upper_behind-upper-requires c =
@@ -39,15 +42,23 @@ upper_behind-upper-requires c =
 
 pub loop-at-smaller : goal.loop-at-smaller
 loop-at-smaller c =
-    omega (arith, c.next_line-next.ensures, next_inside c.loop-at.invariant, next_further c.loop-at.invariant c.loop-at-test.true)
+    omega (
+      arith,
+      c.next_line-next.ensures,
+      next_inside c.loop-at.invariant,
+      next_further c.loop-at.invariant c.loop-at-test.true,
+    )
 
 pub loop-at-preserved : goal.loop-at-preserved
 loop-at-preserved c =
     let good = sym c.fault_of-fault.ensures ∙ (sym c.number.ensures ∙ c.if-number-ne0.false) in
-    let kind = sym (read_byte c.args.text.now c.loop-at.at (sound_whole _ (sound _ _ _ good)) 3 (omega arith) c.byte_at.ensures.value) in
+    let kind =
+    sym (read_byte c.args.text.now c.loop-at.at (sound_whole _ (sound _ _ _ good)) 3
+    (omega arith) c.byte_at.ensures.value) in
     let upper = c.upper_behind-upper.ensures in
     rw (c.next_line-next.ensures, upper.value)
-    (goes_on c.loop-at.invariant c.loop-at-test.true good (λ e. c.if-byte_at-eq1.false (sym kind ∙ e)) (rw upper.value at upper.upper_bound))
+    (goes_on c.loop-at.invariant c.loop-at-test.true good (λ e. c.if-byte_at-eq1.false (sym kind ∙ e))
+    (rw upper.value at upper.upper_bound))
 
 pub returns : goal.returns
 returns c = runs_out c.loop-at.invariant c.loop-at-test.false

@@ -8,7 +8,8 @@ use Rattle.ihex_read.proofs.lay.Goals as goal
 
 -- The length that was read is the record's; the loop has come to i.
 module _ (text : List ℕ) (at start i n : ℕ) (whole : is_whole (line_at text at) ≡ true)
-    (read : byte_at (drop at text) 0 < 256 → n ≡ byte_at (drop at text) 0) (low : start ≤ i) (more : i < start + n) where
+    (read : byte_at (drop at text) 0 < 256 → n ≡ byte_at (drop at text) 0) (low : start ≤ i)
+    (more : i < start + n) where
   -- the next byte is one of its data
   inside : i - start + 4 < asked (drop at text)
   inside = omega (arith, read (byte_small text at whole 0 (omega arith)))
@@ -39,13 +40,15 @@ overflow_cast-array c =
 
 pub bounds-array-i : goal.bounds-array-i
 bounds-array-i c =
-    let f = fits _ _ _ _ _ c.requires.0 c.byte_at.ensures.value c.loop-i.invariant.low c.loop-i-test.true _ c.requires.2 in
+    let f =
+    fits _ _ _ _ _ c.requires.0 c.byte_at.ensures.value c.loop-i.invariant.low c.loop-i-test.true _ c.requires.2 in
     omega (arith, f, same_long c.loop-i.invariant)
 
 pub loop-i-preserved : goal.loop-i-preserved
 loop-i-preserved c =
     let l = inside _ _ _ _ _ c.requires.0 c.byte_at.ensures.value c.loop-i.invariant.low c.loop-i-test.true in
-    let f = fits _ _ _ _ _ c.requires.0 c.byte_at.ensures.value c.loop-i.invariant.low c.loop-i-test.true _ c.requires.2 in
+    let f =
+    fits _ _ _ _ _ c.requires.0 c.byte_at.ensures.value c.loop-i.invariant.low c.loop-i-test.true _ c.requires.2 in
     goes_on c.loop-i.invariant _ c.loop-i-test.true f
     (read_byte c.args.text.now c.args.at c.requires.0 _ l c.byte_at-in-loop-i.ensures.value)
 

@@ -15,7 +15,8 @@ returns-then-number-eq0 c =
     let number = sym (ap (λ (r : Told). r.refusal) c.judge-found.ensures) ∙ sym c.number.ensures in
     record {
       result_value = c.judge-found.ensures ∙ judgement c.args.text.now _ sized;
-      array_after = c.carry_out.ensures ∙ text_read c.args.text.now c.args.array.now sized (number ∙ c.if-number-eq0.true);
+      array_after = c.carry_out.ensures ∙ text_read c.args.text.now c.args.array.now sized
+          (number ∙ c.if-number-eq0.true);
     }
 
 pub returns-else-number-eq0 : goal.returns-else-number-eq0

@@ -1,4 +1,5 @@
--- `ihex_read::record_at` meets its contract: what stands in the text and what the line says are the same. Assumes nothing.
+-- `ihex_read::record_at` meets its contract: what stands in the text and what the line says are the same. Assumes
+-- nothing.
 use Rattle.std.proofs.Common.{ℕ, ◌+◌, get_or, drop, sym, ap, ◌∙◌, arith}
 use borrow.Author.Tests.{ltb-true}
 use lib.Dec.{eqb}
@@ -10,7 +11,8 @@ pub returns-then-left-lt11-clause-whole_value : goal.returns-then-left-lt11-clau
 returns-then-left-lt11-clause-whole_value c = sym (too_short_at c.args.text.now c.args.at (omega arith))
 
 pub returns-then-not-is_pair-clause-whole_value : goal.returns-then-not-is_pair-clause-whole_value
-returns-then-not-is_pair-clause-whole_value c = sym (no_length_at c.args.text.now c.args.at (sym c.is_pair.ensures ∙ c.if-not-is_pair.true))
+returns-then-not-is_pair-clause-whole_value c =
+    sym (no_length_at c.args.text.now c.args.at (sym c.is_pair.ensures ∙ c.if-not-is_pair.true))
 
 pub returns-then-left-length-clause-whole_value : goal.returns-then-left-length-clause-whole_value
 returns-then-left-length-clause-whole_value c =
@@ -27,6 +29,7 @@ returns c =
       whole_value = e;
       total_value =
           λ w.
-          c.tally-found.ensures.total_value (middle (eqb (get_or text at 0) colon) c.tally-found.result.whole c.is_end.result w) ∙
+          c.tally-found.ensures.total_value (middle (eqb (get_or text at 0) colon) c.tally-found.result.whole
+          c.is_end.result w) ∙
           (ap (λ (n : ℕ). sum_of (drop at text) (n + 5)) known ∙ sym (same_sum text at (sym e ∙ w)));
     }

@@ -17,6 +17,11 @@ loop-i-preserved c = (
   rw (add-one c.loop-i.i, c.is_pair-whole.ensures, c.loop-i.invariant.1),
   (λ e.
       let both = (and-eq-true_iff c.loop-i.whole c.is_pair-whole.result).0 e in
-      rw (add-one c.loop-i.i, c.loop-i.invariant.2 both.0, c.byte_at.ensures.value (ltb-true _ _ (sym c.is_pair-whole.ensures ∙ both.1)))),
+      rw (
+        add-one c.loop-i.i,
+        c.loop-i.invariant.2 both.0,
+        c.byte_at.ensures.value
+            (ltb-true _ _ (sym c.is_pair-whole.ensures ∙ both.1)),
+      )),
   omega (arith, c.byte_at.ensures.upper_bound),
 )

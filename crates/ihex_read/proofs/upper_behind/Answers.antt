@@ -39,10 +39,17 @@ returns-then-byte_at-eq4 c =
     record {
       value = rw (← kind, c.if-byte_at-eq4.true, high, low);
       upper_bound =
-          omega (arith, one, other, c.byte_at-then-byte_at-eq4.ensures.value one, c.byte_at-then-byte_at-eq4-2.ensures.value other);
+          omega (
+            arith,
+            one,
+            other,
+            c.byte_at-then-byte_at-eq4.ensures.value one,
+            c.byte_at-then-byte_at-eq4-2.ensures.value other,
+          );
     }
 
 pub returns-else-byte_at-eq4-clause-value : goal.returns-else-byte_at-eq4-clause-value
 returns-else-byte_at-eq4-clause-value c =
-    let kind = read_byte c.args.text.now c.args.at (sound_whole _ c.requires.0) 3 (omega arith) c.byte_at.ensures.value in
+    let kind =
+    read_byte c.args.text.now c.args.at (sound_whole _ c.requires.0) 3 (omega arith) c.byte_at.ensures.value in
     rw (← kind, ne_eqb _ _ c.if-byte_at-eq4.false)

@@ -10,7 +10,12 @@ loop-i-init c = (omega arith, spells _ _ _)
 pub overflow_add-total : goal.overflow_add-total
 overflow_add-total c =
     let bytes = c.type_inv.source in
-    omega (arith, bytes (c.args.from + c.loop-i.i), sum-small c.loop-i.i c.args.from c.args.source.now (λ n. (bytes n).fits))
+    omega (
+      arith,
+      bytes (c.args.from + c.loop-i.i),
+      sum-small c.loop-i.i c.args.from c.args.source.now
+          (λ n. (bytes n).fits),
+    )
 
 pub loop-i-preserved : goal.loop-i-preserved
 loop-i-preserved c =

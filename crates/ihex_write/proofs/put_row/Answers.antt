@@ -1,4 +1,5 @@
--- `ihex_write::put_row` meets its contract: where 64 KiB begin its two records, and elsewhere its one, are the row. Assumes nothing.
+-- `ihex_write::put_row` meets its contract: where 64 KiB begin its two records, and elsewhere its one, are the row.
+-- Assumes nothing.
 use Rattle.std.proofs.Common.{arith}
 use Rattle.ihex_write.proofs.Rows.{first_put, other_put, length-first, length-other}
 use Rattle.ihex_write.proofs.put_row.Goals as goal

@@ -1,4 +1,5 @@
--- `ihex_write::put_text` meets its contract: each turn writes one row more, and the end's line follows. Assumes nothing.
+-- `ihex_write::put_text` meets its contract: each turn writes one row more, and the end's line follows. Assumes
+-- nothing.
 use Rattle.std.proofs.Common.{arith}
 use Rattle.ihex_write.proofs.Ahead.{writing, row_inside, row_room, writes_on, end_room, ends}
 use Rattle.ihex_write.proofs.put_text.Goals as goal
@@ -14,7 +15,8 @@ put_row-at-requires c =
 
 pub loop-from-preserved : goal.loop-from-preserved
 loop-from-preserved c =
-    writes_on c.loop-from.invariant c.requires.1 c.loop-from-test.true _ _ c.put_row-at.ensures.value c.put_row-at.ensures.output_after
+    writes_on c.loop-from.invariant c.requires.1 c.loop-from-test.true _ _ c.put_row-at.ensures.value
+    c.put_row-at.ensures.output_after
 
 pub put_record-requires : goal.put_record-requires
 put_record-requires c = omega (arith, end_room c.loop-from.invariant c.loop-from-test.false)

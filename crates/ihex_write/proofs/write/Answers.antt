@@ -1,4 +1,5 @@
--- `ihex_write::write` meets its contract: what is refused is refused first, and the size alone says how long the text is. Assumes nothing.
+-- `ihex_write::write` meets its contract: what is refused is refused first, and the size alone says how long the text
+-- is. Assumes nothing.
 use Rattle.std.proofs.Common.{sym, ◌∙◌, arith}
 use borrow.Author.Tests.{lt-ltb, le-ltb}
 use Rattle.memories.proofs.Long.{array_long}

@@ -1,5 +1,5 @@
--- `judge::judge` meets its contract: at each return the steps before it did not apply, and the steps are judging by the list.
--- Assumes nothing.
+-- `judge::judge` meets its contract: at each return the steps before it did not apply, and the steps are judging by
+-- the list. Assumes nothing.
 use Rattle.std.proofs.Common.{sym, ◌∙◌, lt-ltb, le-ltb}
 use Rattle.judge.specs.Steps.{stepped}
 use Rattle.judge.proofs.Steps.{by_steps}

@@ -10,4 +10,10 @@ returns-then-number-ne0 c = rw (← c.number.ensures, ne_eqb _ _ c.if-number-ne0
 pub returns : goal.returns
 unfolding booked
 returns c =
-    rw (← c.number.ensures, c.if-number-ne0.false, ← c.is_begun.ensures, ← c.bytes_for.ensures, ← c.came_off-ticks.ensures) c.settle.ensures
+    rw (
+      ← c.number.ensures,
+      c.if-number-ne0.false,
+      ← c.is_begun.ensures,
+      ← c.bytes_for.ensures,
+      ← c.came_off-ticks.ensures,
+    ) c.settle.ensures

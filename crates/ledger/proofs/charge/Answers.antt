@@ -7,5 +7,6 @@ use Rattle.ledger.proofs.charge.Goals as goal
 pub overflow_add-totals : goal.overflow_add-totals
 overflow_add-totals c =
     let account = c.args.running.account in
-    let low : get_or c.args.totals.now account 0 ≤ limit = none_above 256 account c.args.totals.now (omega arith) c.requires.0 in
+    let low : get_or c.args.totals.now account 0 ≤ limit =
+    none_above 256 account c.args.totals.now (omega arith) c.requires.0 in
     search (rules, low)

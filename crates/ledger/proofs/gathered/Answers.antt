@@ -1,4 +1,5 @@
--- `ledger::gathered` meets its contract: as long as a table's bits are not above the limit, no word of it so far is. Assumes nothing.
+-- `ledger::gathered` meets its contract: as long as a table's bits are not above the limit, no word of it so far is.
+-- Assumes nothing.
 use Rattle.std.proofs.Common.{◌≡◌, ℕ, false, refl, subst, add-one, arith}
 use Rattle.std.proofs.Math.Nat.{le_trans}
 use Rattle.ledger.specs.Ledger.{above_before}
@@ -13,7 +14,10 @@ pub loop-i-preserved : goal.loop-i-preserved
 loop-i-preserved c =
     let a = c.loop-i in (
       omega arith,
-      rw (add-one a.i) (low_next a.i a.one c.args.table.now a.invariant.1.0, low_next a.i a.two c.args.also.now a.invariant.1.1),
+      rw (add-one a.i) (
+        low_next a.i a.one c.args.table.now a.invariant.1.0,
+        low_next a.i a.two c.args.also.now a.invariant.1.1,
+      ),
     )
 
 pub returns : goal.returns

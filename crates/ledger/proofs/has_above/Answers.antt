@@ -9,8 +9,10 @@ unfolding above_before
 loop-i-init c = (omega arith, refl)
 
 pub returns-then-table-i-gt-LIMIT : goal.returns-then-table-i-gt-LIMIT
-returns-then-table-i-gt-LIMIT c = sym (found 256 c.loop-i.i c.args.table.now c.loop-i-test.true c.if-table-i-gt-LIMIT.true)
+returns-then-table-i-gt-LIMIT c =
+    sym (found 256 c.loop-i.i c.args.table.now c.loop-i-test.true c.if-table-i-gt-LIMIT.true)
 
 pub loop-i-preserved : goal.loop-i-preserved
 unfolding above_before
-loop-i-preserved c = (omega arith, rw (add-one c.loop-i.i) (rw (le-ltb _ _ c.if-table-i-gt-LIMIT.false) c.loop-i.invariant.1))
+loop-i-preserved c =
+    (omega arith, rw (add-one c.loop-i.i) (rw (le-ltb _ _ c.if-table-i-gt-LIMIT.false) c.loop-i.invariant.1))

@@ -1,5 +1,5 @@
--- `output::send` meets its contract: each source but the status is a memory that is copied out, from an address or from its first
--- byte. Assumes nothing.
+-- `output::send` meets its contract: each source but the status is a memory that is copied out, from an address or
+-- from its first byte. Assumes nothing.
 use Rattle.calls.specs.Address.{address_of}
 use Rattle.output.proofs.Lines.{from_address}
 use Rattle.output.proofs.send.Goals as goal

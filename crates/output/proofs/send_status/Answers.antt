@@ -1,4 +1,5 @@
--- `output::send_status` meets its contract: the bytes of the busy part and those of the idle one, each up to its end. Assumes nothing.
+-- `output::send_status` meets its contract: the bytes of the busy part and those of the idle one, each up to its end.
+-- Assumes nothing.
 use Rattle.output.proofs.Times.{shown_in_turn}
 use Rattle.output.proofs.send_status.Goals as goal
 
@@ -14,5 +15,6 @@ returns c =
       c.status_two.ensures,
       c.status_one.ensures,
     )
-    (shown_in_turn a.device c.passed-idle.result a.signals.wp a.signals.pace a.first turn.result a.end a.output.now c.passed-idle.ensures
+    (shown_in_turn a.device c.passed-idle.result a.signals.wp a.signals.pace a.first turn.result a.end a.output.now
+    c.passed-idle.ensures
     turn.ensures.0 turn.ensures.1 turn.ensures.2)

@@ -1,5 +1,5 @@
--- `pages::program_page` meets its contract: data that does not go past the page's end wraps nowhere, and the source from its end on is
--- as empty as from any place behind it. Assumes nothing.
+-- `pages::program_page` meets its contract: data that does not go past the page's end wraps nowhere, and the source
+-- from its end on is as empty as from any place behind it. Assumes nothing.
 use Rattle.std.proofs.Common.{List, ℕ, length, ap, ◌∙◌}
 use Rattle.cells.specs.Each.{each}
 use Rattle.pages.specs.Page.{programmed}

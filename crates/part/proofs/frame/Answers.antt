@@ -1,4 +1,5 @@
--- `part::frame` meets its contract: a call whose number is 0 is served, any other leaves all as it was. Assumes nothing.
+-- `part::frame` meets its contract: a call whose number is 0 is served, any other leaves all as it was. Assumes
+-- nothing.
 use Rattle.std.proofs.Common.{ap, sym, ◌∙◌, ne_eqb}
 use Rattle.refusals.specs.Refusals.{number_of}
 use Rattle.part.specs.Frame.{number_for, replied, frame}
@@ -16,4 +17,10 @@ returns-then-number-eq0 c =
 pub returns : goal.returns
 unfolding number_for frame replied
 returns c =
-    rw (← c.refusal_of-refusal.ensures, ← c.number.ensures, ne_eqb _ _ c.if-number-eq0.false, c.refused.ensures, c.number.ensures)
+    rw (
+      ← c.refusal_of-refusal.ensures,
+      ← c.number.ensures,
+      ne_eqb _ _ c.if-number-eq0.false,
+      c.refused.ensures,
+      c.number.ensures,
+    )

@@ -1,5 +1,5 @@
--- `part::served` meets its contract: the lengths of an accepted call are what the steps need, and the steps together make the answer.
--- Assumes nothing.
+-- `part::served` meets its contract: the lengths of an accepted call are what the steps need, and the steps together
+-- make the answer. Assumes nothing.
 use Rattle.std.proofs.Common.{◌≡◌, ◌+◌, ◌/◌, ◌≤◌, length, arith}
 use Rattle.judge.proofs.Leaves.{within}
 use Rattle.memories.proofs.Long.{array_long}
@@ -9,7 +9,8 @@ use Rattle.part.proofs.Frames.{together}
 use Rattle.part.proofs.served.Goals as goal
 
 -- the call is one that is not refused
-ok : (c : Call) (m : Lent) → number_for c (lengths_of c m) ≡ 0 → Accepting c.device c.settings c.signals (lengths_of c m)
+ok : (c : Call) (m : Lent) → number_for c (lengths_of c m) ≡ 0
+    → Accepting c.device c.settings c.signals (lengths_of c m)
 unfolding number_for
 ok c m e = accepted _ _ _ _ e
 

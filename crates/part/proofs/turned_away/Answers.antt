@@ -11,4 +11,10 @@ returns-then-number-eq0 c =
 pub returns : goal.returns
 unfolding number_for
 returns c =
-    rw (c.refused-2.ensures, ← c.refusal_of-own.ensures, ← c.number.ensures, ne_eqb _ _ c.if-number-eq0.false, c.number.ensures)
+    rw (
+      c.refused-2.ensures,
+      ← c.refusal_of-own.ensures,
+      ← c.number.ensures,
+      ne_eqb _ _ c.if-number-eq0.false,
+      c.number.ensures,
+    )

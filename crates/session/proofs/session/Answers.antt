@@ -8,4 +8,5 @@ returns g c =
     c.in_ok-enabled.ensures.value c.in_ok-enabled.ensures.output_after
     c.in_ok-busy.ensures.value c.in_ok-busy.ensures.output_after
     c.in_ok-polled.ensures.value c.in_ok-polled.ensures.output_after
-    c.in_ok-enabled.ensures.printed c.in_ok-busy.ensures.printed c.in_ok-polled.ensures.printed c.in_ok-turn.ensures.printed
+    c.in_ok-enabled.ensures.printed c.in_ok-busy.ensures.printed c.in_ok-polled.ensures.printed
+    c.in_ok-turn.ensures.printed

@@ -4,7 +4,8 @@ use Rattle.cells.proofs.Runs.{Reached}
 use Rattle.cells.proofs.copy.copy_run.Given as goal
 
 abbrev pub invariant-loop-i : goal.invariant-loop-i
-invariant-loop-i l = Reached (λ k x. get_or l.memory (l.start + (k - l.from)) 0) l.from l.to l.initial.output l.i l.output
+invariant-loop-i l =
+    Reached (λ k x. get_or l.memory (l.start + (k - l.from)) 0) l.from l.to l.initial.output l.i l.output
 
 abbrev pub decreases-loop-i : goal.decreases-loop-i
 decreases-loop-i l = l.to - l.i
