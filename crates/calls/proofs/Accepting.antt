@@ -1,13 +1,13 @@
 -- What is known of a call that is not refused. Assumes nothing.
 use Prim.Native.Nat.{◌≤◌}
 use mathlib.Core.Bool.{Bool, true, false, cond}
-use mathlib.Core.Logic.{◌≢◌}
 use mathlib.Core.Path.{◌≡◌, refl}
-use native.Mathlib.Omega.{arith}
 use borrow.Author.Tests.{ltb-false, eqb-true, not-false}
 use Rattle.refusals.specs.declared.Refusal.{Refusal}
 use Rattle.refusals.specs.declared.Refusal.TheVariants.{ArrayLength, RegisterLength, InputLength, BitCount, OutputLength, Record, Duration, Pace}
-use Rattle.refusals.specs.Refusals.{number_of}
+use Rattle.refusals.specs.Refusals.{number_in}
+use Rattle.refusals.proofs.Numbers.{never_0}
+use Rattle.std.specs.Prelude.{Result, Err}
 use Rattle.settings.specs.declared.Settings.{Settings}
 use Rattle.settings.specs.Settings.{any_unfair}
 use Rattle.device.specs.declared.Device.{Device}
@@ -19,9 +19,9 @@ use Rattle.calls.specs.declared.Signals.{Signals}
 use Rattle.calls.specs.Refusal.{bytes_for, refusal_of}
 
 -- a refusal has a number other than 0, so where the number is 0 it was not given
-passed : (b : Bool) (r m : Refusal) → number_of r ≢ 0 → number_of (cond b r m) ≡ 0 → (b ≡ false) × (number_of m ≡ 0)
-passed true r m n e = absurd (n e)
-passed false r m n e = (refl, e)
+passed : (b : Bool) (r : Refusal) (m : Result (Unit {0}) Refusal) → number_in (cond b (Err r) m) ≡ 0 → (b ≡ false) × (number_in m ≡ 0)
+passed true r m e = absurd (never_0 r e)
+passed false r m e = (refl, e)
 
 -- what is known of an accepted call
 pub record Accepting (d : Device) (s : Settings) (signals : Signals) (lengths : Lengths) : Type 0 where
@@ -34,17 +34,17 @@ pub record Accepting (d : Device) (s : Settings) (signals : Signals) (lengths : 
   pub fair : any_unfair s.ticks ≡ false
   pub quick : signals.pace ≤ 1000
 
-pub accepted : (d : Device) (s : Settings) (signals : Signals) (lengths : Lengths) → number_of (refusal_of d s signals lengths) ≡ 0 → Accepting d s signals lengths
+pub accepted : (d : Device) (s : Settings) (signals : Signals) (lengths : Lengths) → number_in (refusal_of d s signals lengths) ≡ 0 → Accepting d s signals lengths
 unfolding refusal_of
 accepted d s signals lengths e =
-    let one = passed _ ArrayLength _ (λ z. omega arith) e in
-    let two = passed _ RegisterLength _ (λ z. omega arith) one.1 in
-    let three = passed _ InputLength _ (λ z. omega arith) two.1 in
-    let four = passed _ BitCount _ (λ z. omega arith) three.1 in
-    let five = passed _ OutputLength _ (λ z. omega arith) four.1 in
-    let six = passed _ Record _ (λ z. omega arith) five.1 in
-    let seven = passed _ Duration _ (λ z. omega arith) six.1 in
-    let eight = passed _ Pace _ (λ z. omega arith) seven.1 in
+    let one = passed _ ArrayLength _ e in
+    let two = passed _ RegisterLength _ one.1 in
+    let three = passed _ InputLength _ two.1 in
+    let four = passed _ BitCount _ three.1 in
+    let five = passed _ OutputLength _ four.1 in
+    let six = passed _ Record _ five.1 in
+    let seven = passed _ Duration _ six.1 in
+    let eight = passed _ Pace _ seven.1 in
     record {
       array = not-false _ one.0;
       register = register_long lengths.register (not-false _ two.0);

@@ -5,8 +5,9 @@ use mathlib.Core.Path.{ap}
 use native.Mathlib.Omega.{arith}
 use lib.Dec.{ltb, eqb}
 use Rattle.refusals.specs.declared.Refusal.{Refusal}
-use Rattle.refusals.specs.declared.Refusal.TheVariants.{Accepted, ArrayLength, RegisterLength, InputLength, BitCount, OutputLength, Record, Duration, Pace, Account}
-use Rattle.refusals.specs.Refusals.{number_of}
+use Rattle.refusals.specs.declared.Refusal.TheVariants.{ArrayLength, RegisterLength, InputLength, BitCount, OutputLength, Record, Duration, Pace, Account}
+use Rattle.refusals.specs.Refusals.{number_in}
+use Rattle.std.specs.Prelude.{Result, Ok, Err}
 use Rattle.settings.specs.declared.Settings.{Settings}
 use Rattle.settings.specs.Settings.{any_unfair}
 use Rattle.device.specs.declared.Device.{Device}
@@ -17,24 +18,24 @@ use Rattle.calls.specs.declared.Signals.{Signals}
 use Rattle.calls.specs.Refusal.{bytes_for, refusal_of}
 
 -- the number tells it from the ledger's
-apart : (r : Refusal) → number_of r ≢ 9 → r ≢ Account
-apart r n e = n (ap number_of e)
+apart : (came : Result (Unit {0}) Refusal) → number_in came ≢ 9 → came ≢ Err Account
+apart came n e = n (ap number_in e)
 
-pub not_the_ledgers : (d : Device) (s : Settings) (signals : Signals) (lengths : Lengths) → refusal_of d s signals lengths ≢ Account
+pub not_the_ledgers : (d : Device) (s : Settings) (signals : Signals) (lengths : Lengths) → refusal_of d s signals lengths ≢ Err Account
 unfolding refusal_of
 not_the_ledgers d s signals lengths =
     by (not (is_array lengths.array)) (not (is_register lengths.register)) (ltb 8192 lengths.input)
     (not (eqb (bytes_for signals.bits) lengths.input)) (ltb lengths.output lengths.input) (unsound d) (any_unfair s.ticks) (ltb 1000 signals.pace)
   where
     by : (a b c e f g h i : Bool)
-        → cond a ArrayLength (cond b RegisterLength (cond c InputLength (cond e BitCount (cond f OutputLength (cond g Record (cond h Duration (cond i Pace Accepted)))))))
-        ≢ Account
-    by true b c e f g h i = apart ArrayLength (λ e. omega arith)
-    by false true c e f g h i = apart RegisterLength (λ e. omega arith)
-    by false false true e f g h i = apart InputLength (λ e. omega arith)
-    by false false false true f g h i = apart BitCount (λ e. omega arith)
-    by false false false false true g h i = apart OutputLength (λ e. omega arith)
-    by false false false false false true h i = apart Record (λ e. omega arith)
-    by false false false false false false true i = apart Duration (λ e. omega arith)
-    by false false false false false false false true = apart Pace (λ e. omega arith)
-    by false false false false false false false false = apart Accepted (λ e. omega arith)
+        → cond a (Err ArrayLength) (cond b (Err RegisterLength) (cond c (Err InputLength) (cond e (Err BitCount) (cond f (Err OutputLength) (cond g (Err Record) (cond h (Err Duration) (cond i (Err Pace) (Ok (tt {0})))))))))
+        ≢ Err Account
+    by true b c e f g h i = apart (Err ArrayLength) (λ e. omega arith)
+    by false true c e f g h i = apart (Err RegisterLength) (λ e. omega arith)
+    by false false true e f g h i = apart (Err InputLength) (λ e. omega arith)
+    by false false false true f g h i = apart (Err BitCount) (λ e. omega arith)
+    by false false false false true g h i = apart (Err OutputLength) (λ e. omega arith)
+    by false false false false false true h i = apart (Err Record) (λ e. omega arith)
+    by false false false false false false true i = apart (Err Duration) (λ e. omega arith)
+    by false false false false false false false true = apart (Err Pace) (λ e. omega arith)
+    by false false false false false false false false = apart (Ok (tt {0})) (λ e. omega arith)

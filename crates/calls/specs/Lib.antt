@@ -1,2 +1,3 @@
 pub mod Address
 pub mod Refusal
+pub mod Lent

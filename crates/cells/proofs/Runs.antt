@@ -1,15 +1,17 @@
 -- The laws of a range of places: a loop that stores at one place after the other, and runs side by side. Assumes nothing.
-use Prim.Native.Nat.{ℕ, ◌+◌, ◌<◌, ◌≤◌}
+use Prim.Native.Nat.{ℕ, ◌+◌, ◌-◌, ◌<◌, ◌≤◌}
 use mathlib.Core.Bool.{true, false, and-false, and-eq-true_iff}
-use mathlib.Core.List.{List}
+use mathlib.Core.List.{List, ◌++◌}
 use mathlib.Core.Logic.{◌≢◌}
 use mathlib.Core.Path.{◌≡◌, refl, sym, ap, ◌∙◌}
 use native.Mathlib.Decide.{dec_lt}
 use native.Mathlib.Omega.{arith}
 use borrow.Author.Tests.{lt-ltb, le-ltb, le-leb, lt-leb, leb-true, ltb-true}
 use lib.Dec.{leb, ltb}
-use lib.ListN.{length, get_or, set}
-use Rattle.cells.specs.Each.{Cell, each, over}
+use borrow.Rule.Slice.PartMut.{post_of, put_mid, mid_len, same_len_mid, Post-is}
+use lib.ListN.{length, get_or, set, take, get_or-append}
+use lib.Seq.{get_or-append_right, get_or-drop, get_or-take, length-take-le}
+use Rattle.cells.specs.Each.{Cell, each, over, stored}
 use Rattle.cells.specs.Range.{range}
 use Rattle.cells.proofs.Places.{each_alike, each_then, each_set, is_each, length-each, over_in, over_out, over_alike}
 use Rattle.cells.proofs.Places.{untouched}
@@ -56,6 +58,37 @@ side_by_side f a b e xs p q =
     by k x (no l) =
         ap (over (range b e) f k) (over_out (range a b) f k x (range_behind a b k (omega arith))) ∙
         over_alike (range b e) (range a e) f f k x (rw (le-leb b k (omega arith), le-leb a k (omega arith))) (λ c. refl)
+
+-- a part of the memory that is given new bytes, each by its place, is a range that they are stored in
+pub put_stored : (a b : ℕ) (value : ℕ → ℕ) (xs ys : List ℕ) → a ≤ b → b ≤ length xs → length ys ≡ b - a
+    → ((k : ℕ) → a ≤ k → k < b → get_or ys (k - a) 0 ≡ value k) → put_mid a (b - a) xs ys ≡ each (stored (range a b) value) xs
+put_stored a b value xs ys p q e h =
+    is_each (stored (range a b) value) xs (put_mid a (b - a) xs ys) (same_len_mid a (b - a) xs ys (e ∙ sym (mid_len a b xs q)))
+    (λ k l. by k (dec_lt k a) (dec_lt k b))
+  where
+    front : length (take a xs) ≡ a
+    front = length-take-le a xs (omega arith)
+
+    rest : List ℕ
+    rest = ys ++ post_of a (b - a) xs
+
+    behind : (k : ℕ) → a ≤ k → get_or (put_mid a (b - a) xs ys) k 0 ≡ get_or rest (k - a) 0
+    behind k l = rw front at (get_or-append_right (take a xs) rest k 0 (omega (arith, front)))
+
+    by : (k : ℕ) → Dec (k < a) → Dec (k < b) → get_or (put_mid a (b - a) xs ys) k 0 ≡ stored (range a b) value k (get_or xs k 0)
+    by k (yes l) m =
+        get_or-append (take a xs) rest 0 k (omega (arith, front)) ∙ (get_or-take a xs k 0 l ∙ sym (over_out _ _ k _ (range_before a b k l)))
+    by k (no l) (yes m) =
+        behind k (omega arith) ∙ (get_or-append ys (post_of a (b - a) xs) 0 (k - a) (omega (arith, e)) ∙
+        (h k (omega arith) m ∙ sym (over_in _ _ k _ (range_in a b k (omega arith) m))))
+    by k (no l) (no m) =
+        behind k (omega arith) ∙ (get_or-append_right ys (post_of a (b - a) xs) (k - a) 0 (omega (arith, e)) ∙
+        (ap (λ (zs : List ℕ). get_or zs (k - a - length ys) 0) (Post-is a b xs p) ∙
+        (get_or-drop b xs (k - a - length ys) 0 ∙
+        (ap (λ (n : ℕ). get_or xs n 0) (omega (arith, e)) ∙ sym (over_out _ _ k _ (range_behind a b k (omega arith)))))))
+
+-- with it, what a part that is read holds
+pub ruleset parts = (put_stored, get_or-take, get_or-drop)
 
 -- A loop that gives the places from a up to b their new bytes, one after the other, has reached i: the memory xs has become ys.
 pub record Reached (f : Cell) (a b : ℕ) (xs : List ℕ) (i : ℕ) (ys : List ℕ) : Type 0 where

@@ -39,15 +39,24 @@ copy_begins memory start from to xs p l =
 
 -- one straight run more, to the output's end or the memory's
 pub copies_on : {memory : List ℕ} {start from to : ℕ} {xs : List ℕ} {at next : ℕ} {ys : List ℕ} → Copying memory start from to xs at next ys
-    → at < to → (n : ℕ) (zs : List ℕ) → n ≡ min (to - at) (length memory - next) → zs ≡ each (run at (at + n) memory next) ys
+    → (n : ℕ) (zs : List ℕ) → n ≡ min (to - at) (length memory - next) → zs ≡ each (run at (at + n) memory next) ys
     → Copying memory start from to xs (at + n) 0 zs
-copies_on {memory} {start} {from} {to} {xs} {at} {next} {ys} r t n zs w z =
+copies_on {memory} {start} {from} {to} {xs} {at} {next} {ys} r n zs w z =
     let p : from ≤ at = r.reached.low in
     let l : next < length memory = r.inside in
     record {
       reached =
           runs_on r.reached (λ k x. get_or memory (next + (k - at)) 0) (at + n) zs (omega arith) (omega arith) z
-          (λ k x a b. ap (λ (i : ℕ). get_or memory i 0) (straight (length memory) start from at next k (r.here t) p a (omega arith)));
+          (λ k x a b. ap (λ (i : ℕ). get_or memory i 0) (straight (length memory) start from at next k (r.here (omega arith)) p a (omega arith)));
       inside = omega arith;
-      here = λ s. around (length memory) start from at next (at + n) (r.here t) p (omega arith) (omega arith);
+      here = λ s. around (length memory) start from at next (at + n) (r.here (omega arith)) p (omega arith) (omega arith);
     }
+
+-- one run of the whole memory more, or what the output still takes of it
+pub turns_on : {memory : List ℕ} {start from to : ℕ} {xs : List ℕ} {at : ℕ} {ys : List ℕ} → Copying memory start from to xs (min at to) 0 ys
+    → at < to → (n : ℕ) (zs : List ℕ) → n ≡ min (to - at) (length memory) → zs ≡ each (run at (at + n) memory 0) ys
+    → Copying memory start from to xs (min (at + length memory) to) 0 zs
+turns_on {memory} {start} {from} {to} {xs} {at} {ys} r t n zs w z =
+    let here : min at to ≡ at = omega arith in
+    let there : min (at + length memory) to ≡ at + n = omega arith in
+    rw there (copies_on (rw here at r) n zs (omega arith) z)

@@ -3,18 +3,13 @@ ghost use Rattle.std.specs.Prelude.{◌≡◌, ◌+◌, ◌-◌, ◌≤◌, ◌<
 ghost use Rattle.cells.specs.Each.{each};
 ghost use Rattle.cells.specs.Range.{copied, run};
 
-use numbers::lesser;
-
 // One straight run: the output from `from` up to `to` receives the memory from `start` on.
+#[tactic(auto, using(crate::proofs::Runs::parts))]
 pub fn copy_run(output: &mut [u8], from: usize, to: usize, memory: &[u8], start: usize)
     requires { (from ≤ to) × (to ≤ length output.old) × (start + (to - from) ≤ length memory.now) }
     ensures { output.new ≡ each (run from to memory.now start) output.old }
 {
-    let mut i = from;
-    while i < to {
-        output[i] = memory[start + (i - from)];
-        i += 1;
-    }
+    output[from..to].copy_from_slice(&memory[start..start + (to - from)]);
 }
 
 // The output from `from` up to `to` receives the memory from `start` on; past its last byte it goes on at 0.
@@ -22,12 +17,9 @@ pub fn copy_out(output: &mut [u8], from: usize, to: usize, memory: &[u8], start:
     requires { (from ≤ to) × (to ≤ length output.old) × (start < length memory.now) }
     ensures { output.new ≡ each (copied from to memory.now start) output.old }
 {
-    let mut at = from;
-    let mut next = start;
-    while at < to {
-        let end = at + lesser(to - at, memory.len() - next);
-        copy_run(output, at, end, memory, next);
-        at = end;
-        next = 0;
+    let straight = from + (to - from).min(memory.len() - start);
+    copy_run(output, from, straight, memory, start);
+    for at in (straight..to).step_by(memory.len()) {
+        copy_run(output, at, at + (to - at).min(memory.len()), memory, 0);
     }
 }

@@ -4,13 +4,10 @@ ghost use Rattle.cells.specs.Each.{each};
 ghost use Rattle.cells.specs.Range.{filled};
 
 // The bytes from `from` up to `to` become `value`.
+#[tactic(auto, using(crate::proofs::Runs::put_stored))]
 pub fn fill(memory: &mut [u8], from: usize, to: usize, value: u8)
     requires { (from ≤ to) × (to ≤ length memory.old) }
     ensures { memory.new ≡ each (filled from to value) memory.old }
 {
-    let mut i = from;
-    while i < to {
-        memory[i] = value;
-        i += 1;
-    }
+    memory[from..to].fill(value);
 }

@@ -4,53 +4,18 @@
 
 pub mod status;
 
-ghost use Rattle.std.specs.Prelude.{cond, ◌≡◌};
-ghost use Rattle.device.specs.Device.{fresh, awake, deep, ultra_deep, is_busy, unsound, passed, latched, dropped};
+ghost use Rattle.std.specs.Prelude.{◌≡◌};
+ghost use Rattle.device.specs.Device.{fresh, is_busy, unsound, passed, latched, dropped};
 ghost use Rattle.device.specs.Device.{moved, woken, working, reset, marked, written, enabled};
 
 use settings::LONGEST;
 
 // Awake, in deep power-down or in ultra-deep power-down.
-#[derive(Clone, Copy)]
+#[derive(Clone, Copy, Debug, PartialEq, Eq)]
 pub enum Mode {
     Awake,
     Deep,
     UltraDeep,
-}
-
-impl Mode {
-    // Not asleep.
-    pub(crate) fn is_awake(self) -> bool
-        ensures { result ≡ awake self }
-    {
-        match self {
-            Mode::Awake => true,
-            Mode::Deep => false,
-            Mode::UltraDeep => false,
-        }
-    }
-
-    // In deep power-down.
-    pub fn is_deep(self) -> bool
-        ensures { result ≡ deep self }
-    {
-        match self {
-            Mode::Awake => false,
-            Mode::Deep => true,
-            Mode::UltraDeep => false,
-        }
-    }
-
-    // In ultra-deep power-down.
-    pub fn is_ultra_deep(self) -> bool
-        ensures { result ≡ ultra_deep self }
-    {
-        match self {
-            Mode::Awake => false,
-            Mode::Deep => false,
-            Mode::UltraDeep => true,
-        }
-    }
 }
 
 // The bits BPL, BP0, WEL and RSTE, the OTP-used mark, the mode and the busy ticks left.
@@ -63,13 +28,6 @@ pub struct Device {
     pub used: bool,
     pub mode: Mode,
     pub busy: u64,
-}
-
-// The one flag if the test holds, else the other.
-fn either(test: bool, one: bool, other: bool) -> bool
-    ensures { result ≡ cond test one other }
-{
-    if test { one } else { other }
 }
 
 impl Device {
@@ -99,19 +57,14 @@ impl Device {
     pub fn is_unsound(self) -> bool
         ensures { result ≡ unsound self }
     {
-        let mode = self.mode;
-        (LONGEST < self.busy) | (self.is_busy() & !mode.is_awake())
+        LONGEST < self.busy || self.is_busy() && self.mode != Mode::Awake
     }
 
     // Time passes: so many ticks fewer are left, or none.
     pub fn passed(mut self, ticks: u64) -> Device
         ensures { result ≡ passed self ticks }
     {
-        if self.busy <= ticks {
-            self.busy = 0;
-        } else {
-            self.busy = self.busy - ticks;
-        }
+        self.busy = self.busy.saturating_sub(ticks);
         self
     }
 
@@ -131,19 +84,12 @@ impl Device {
         self
     }
 
-    // The mode changes. A field that is an enum cannot be assigned, so the record is written anew, here and nowhere else.
-    pub fn moved(self, mode: Mode) -> Device
+    // The mode changes.
+    pub fn moved(mut self, mode: Mode) -> Device
         ensures { result ≡ moved self mode }
     {
-        Device {
-            bpl: self.bpl,
-            bp0: self.bp0,
-            wel: self.wel,
-            rste: self.rste,
-            used: self.used,
-            mode,
-            busy: self.busy,
-        }
+        self.mode = mode;
+        self
     }
 
     // Woken from ultra-deep: the latch and RSTE are lost.
@@ -181,7 +127,9 @@ impl Device {
     pub fn written(mut self, byte: u8) -> Device
         ensures { result ≡ written self byte }
     {
-        self.bp0 = either(self.bpl, self.bp0, byte / 4 % 2 == 1);
+        if !self.bpl {
+            self.bp0 = byte / 4 % 2 == 1;
+        }
         self.bpl = byte / 128 % 2 == 1;
         self
     }

@@ -1,30 +1,23 @@
 // The two status bytes of a record.
-ghost use Rattle.std.specs.Prelude.{cond, ◌≡◌, ◌≤◌};
+ghost use Rattle.std.specs.Prelude.{◌≡◌};
 ghost use Rattle.device.specs.Status.{status_one, status_two};
 
 use crate::Device;
-
-// The bit of that weight, if the flag is up.
-fn weighed(flag: bool, weight: u8) -> u8
-    ensures { (result ≡ cond flag weight 0) × (result ≤ weight) }
-{
-    if flag { weight } else { 0 }
-}
 
 // Status byte 1, with the level of WP.
 pub fn status_one(device: Device, wp: bool) -> u8
     ensures { result ≡ status_one device wp }
 {
-    weighed(device.bpl, 128)
-        + weighed(wp, 16)
-        + weighed(device.bp0, 4)
-        + weighed(device.wel, 2)
-        + weighed(0 < device.busy, 1)
+    128 * device.bpl as u8
+        + 16 * wp as u8
+        + 4 * device.bp0 as u8
+        + 2 * device.wel as u8
+        + device.is_busy() as u8
 }
 
 // Status byte 2.
 pub fn status_two(device: Device) -> u8
     ensures { result ≡ status_two device }
 {
-    weighed(device.rste, 16) + weighed(0 < device.busy, 1)
+    16 * device.rste as u8 + device.is_busy() as u8
 }

@@ -8,7 +8,7 @@ ghost use Rattle.face_basics.specs.Face as face;
 
 use device::Device;
 use device::status::{status_one, status_two};
-use face_words::{RECORD, SETTINGS, as_word, device_of, is_record, memory_of, pack, write};
+use face_words::{RECORD, SETTINGS, device_of, is_record, memory_of, pack, write};
 use memories::{look, look_start};
 use settings::Settings;
 
@@ -26,7 +26,7 @@ pub fn oxterin_fresh(bpl: u64, bp0: u64, used: u64, device: &mut [u64]) -> u64
         written_if (face.is_fresh bpl bp0 used (length device.old)) (face.fresh_words bpl bp0 used) device.old }
 {
     let words = pack(Device::fresh(bpl == 1, bp0 == 1, used == 1));
-    write((bpl < 2) & (bp0 < 2) & (used < 2), device, RECORD, &words)
+    write(bpl < 2 && bp0 < 2 && used < 2, device, RECORD, &words)
 }
 
 // The typical durations.
@@ -34,9 +34,7 @@ pub fn oxterin_typical(settings: &mut [u64]) -> u64
     ensures value { result ≡ number_if (is_settings settings.old) }
     ensures settings_after { settings.new ≡ written_if (is_settings settings.old) face.typical_words settings.old }
 {
-    let typical = Settings::typical();
-    let ticks = typical.ticks;
-    write(true, settings, SETTINGS, &ticks)
+    write(true, settings, SETTINGS, &Settings::typical().ticks)
 }
 
 // The two status bytes of a record, with the level of WP.
@@ -48,10 +46,10 @@ pub fn oxterin_status(device: &[u64], wp: u64, status: &mut [u64]) -> u64
 {
     let known = device_of(device);
     let words = [
-        as_word(status_one(known, wp == 1)),
-        as_word(status_two(known)),
+        u64::from(status_one(known, wp == 1)),
+        u64::from(status_two(known)),
     ];
-    write(is_record(device) & (wp < 2), status, 2, &words)
+    write(is_record(device) && wp < 2, status, 2, &words)
 }
 
 // Where in the array, 0, or the register, 1, a look begins, and how many bytes it has.
@@ -71,6 +69,5 @@ pub fn oxterin_look<'a>(
     let chosen = memory_of(memory);
     let start = look_start(array.len(), register.len(), chosen, address as usize);
     let view = look(array, register, chosen, address as usize, count as usize);
-    let words = [start as u64, view.len() as u64];
-    write(memory < 2, place, 2, &words)
+    write(memory < 2, place, 2, &[start as u64, view.len() as u64])
 }

@@ -9,6 +9,8 @@ use borrow.Author.Tests.{eq-eqb, ne_eqb}
 use lib.Dec.{eqb}
 use lib.ListN.{length, set}
 use Rattle.ihex_promises.proofs.Refused.{refused_output, refused_array}
+use Rattle.ihex_write.specs.Writer.{written, written_of, output_of}
+use Rattle.ihex_read.specs.Reader.{reading, reading_of, array_of}
 use Rattle.face_hex.specs.Words.{Spoken, spoken, answered, text_out, text_in}
 
 -- a single word, stored
@@ -18,10 +20,23 @@ one_word (old ∷ []) new e = refl
 one_word (old ∷ other ∷ word) new e = absurd (omega arith)
 
 -- one word: it becomes the answer's
-pub answers : (word memory : List ℕ) (number new : ℕ) (before : Spoken) → length word ≡ 1
+answers : (word memory : List ℕ) (number new : ℕ) (before : Spoken) → length word ≡ 1
     → spoken number (set word 0 new) memory ≡ answered word (spoken number (new ∷ []) memory) before
 unfolding answered
 answers word memory number new before e = rw (one_word word new e, eq-eqb (length word) 1 e)
+
+-- so for a text that was written, or was not, and for one that was read, or was not
+pub tells_written : (array text word after : List ℕ) (refusal characters : ℕ) → length word ≡ 1
+    → written refusal characters ≡ written_of array (length text) → after ≡ output_of array text
+    → spoken refusal (set word 0 characters) after ≡ text_out array text word
+unfolding text_out
+tells_written array text word after refusal characters e w o = rw (o, ← w) (answers word _ refusal characters _ e)
+
+pub tells_read : (text array word after : List ℕ) (refusal place : ℕ) → length word ≡ 1
+    → reading refusal place ≡ reading_of text (length array) → after ≡ array_of text array
+    → spoken refusal (set word 0 place) after ≡ text_in text array word
+unfolding text_in
+tells_read text array word after refusal place e r o = rw (o, ← r) (answers word _ refusal place _ e)
 
 -- any other number of words: all is as it was
 pub passes_over : (word : List ℕ) (answer before : Spoken) → (length word ≡ 1 → ⊥) → before ≡ answered word answer before

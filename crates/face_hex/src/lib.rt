@@ -5,7 +5,7 @@
 ghost use Rattle.std.specs.Prelude.{◌≡◌};
 ghost use Rattle.face_hex.specs.Words.{spoken, text_out, text_in};
 
-use face_words::{UNREAD, as_word};
+use face_words::UNREAD;
 
 // An array as Intel HEX text: the number of the refusal, 0 if the text was written. The word becomes the number of characters.
 pub fn oxterin_hex_write(array: &[u8], text: &mut [u8], characters: &mut [u64]) -> u64
@@ -13,10 +13,16 @@ pub fn oxterin_hex_write(array: &[u8], text: &mut [u8], characters: &mut [u64]) 
         text_out array.now text.old characters.old }
 {
     if characters.len() == 1 {
-        let written = ihex_write::write(array, text);
-        characters[0] = written.characters as u64;
-        let refusal = written.refusal;
-        return as_word(refusal.number());
+        return match ihex_write::write(array, text) {
+            Ok(written) => {
+                characters[0] = written as u64;
+                0
+            }
+            Err(refusal) => {
+                characters[0] = 0;
+                u64::from(refusal.number())
+            }
+        };
     }
     UNREAD
 }
@@ -27,10 +33,16 @@ pub fn oxterin_hex_read(text: &[u8], array: &mut [u8], place: &mut [u64]) -> u64
     ensures { spoken result place.new array.new ≡ text_in text.now array.old place.old }
 {
     if place.len() == 1 {
-        let reading = ihex_read::read(text, array);
-        place[0] = reading.place as u64;
-        let refusal = reading.refusal;
-        return as_word(refusal.number());
+        return match ihex_read::read(text, array) {
+            Ok(()) => {
+                place[0] = 0;
+                0
+            }
+            Err(fault) => {
+                place[0] = fault.place as u64;
+                u64::from(fault.refusal.number())
+            }
+        };
     }
     UNREAD
 }

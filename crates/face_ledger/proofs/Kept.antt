@@ -1,15 +1,13 @@
 -- What is not accepted changes nothing, word by word. Assumes nothing.
 use Prim.Native.Nat.{ℕ}
-use mathlib.Core.Bool.{Bool, true, false, cond, ◌&&◌, and-false}
+use mathlib.Core.Bool.{Bool, true, false, cond}
 use mathlib.Core.List.{List, [], ◌∷◌}
 use mathlib.Core.Logic.{◌≢◌}
 use mathlib.Core.Path.{◌≡◌, refl, sym, ap, ◌∙◌}
-use native.Mathlib.Decide.{ℕ_discrete}
 use native.Mathlib.Omega.{arith}
-use borrow.Author.Tests.{ne_eqb}
-use lib.Dec.{eqb}
 use lib.ListN.{length}
-use Rattle.refusals.specs.Refusals.{number_of}
+use Rattle.std.specs.Prelude.{Result as OneOf, Ok, Err}
+use Rattle.refusals.specs.declared.Refusal.{Refusal}
 use Rattle.part.specs.Frame.{Lent}
 use Rattle.ledger.specs.declared.Reported.{Reported}
 use Rattle.ledger.specs.declared.Running.{Running}
@@ -107,14 +105,13 @@ close_unread running now old = (left, λ e. by (is_running running) refl e)
     by true r e = absurd (omega (arith, accepted r))
     by false r e = r
 
-pub report_kept : (r : Reported) (line : List ℕ) → report_number r line ≢ 0 → report_words r line ≡ line
-report_kept r line n = by (ℕ_discrete (number_of r.refusal) 0) (is_report (length line)) n
+pub report_kept : (r : OneOf Reported Refusal) (line : List ℕ) → report_number r line ≢ 0 → report_words r line ≡ line
+report_kept (Ok r) line n = by (is_report (length line)) n
   where
-    by : Dec (number_of r.refusal ≡ 0) → (b : Bool) → cond b (number_of r.refusal) 255 ≢ 0
-        → written_if (eqb (number_of r.refusal) 0 && b) (r.total ∷ r.most ∷ r.number ∷ []) line ≡ line
-    by (yes z) true n = absurd (n z)
-    by (yes z) false n = rw (and-false (eqb (number_of r.refusal) 0))
-    by (no m) b n = rw (ne_eqb (number_of r.refusal) 0 m)
+    by : (b : Bool) → ◌≢◌ {A = ℕ} (cond b 0 255) 0 → written_if b (r.total ∷ r.most ∷ r.number ∷ []) line ≡ line
+    by true n = absurd (n refl)
+    by false n = refl
+report_kept (Err refusal) line n = refl
 
 pub same_running : (r : Running) → (is_running (running_words r) ≡ true) × (running_of (running_words r) ≡ r)
 same_running r = (refl, refl)

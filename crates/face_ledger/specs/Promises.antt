@@ -1,5 +1,6 @@
 -- What a frame through the ledger by words, and the report, promise. Assumes nothing.
-use Rattle.std.specs.Prelude.{ℕ, true, false, List, ◌≢◌, ◌≡◌}
+use Rattle.std.specs.Prelude.{ℕ, true, false, List, ◌≢◌, ◌≡◌, Result}
+use Rattle.refusals.specs.declared.Refusal.{Refusal}
 use Rattle.part.specs.Frame.{Lent}
 use Rattle.face_words.specs.Words.{is_record, device_of}
 use Rattle.face_frame.specs.Words.{Handed, call_of}
@@ -32,6 +33,6 @@ pub record Promises : Type 0 where
       → (is_running running ≡ false → closing running now old ≡ closed_with 255 running now old)
       × ((closing running now old).number ≡ 255 → is_running running ≡ false)
   -- a report that is refused writes nothing
-  pub report_kept : (r : Reported) (line : List ℕ) → report_number r line ≢ 0 → report_words r line ≡ line
+  pub report_kept : (r : Result Reported Refusal) (line : List ℕ) → report_number r line ≢ 0 → report_words r line ≡ line
   -- the running operation that comes back as words is the one that goes in with them
   pub same_running : (r : Running) → (is_running (running_words r) ≡ true) × (running_of (running_words r) ≡ r)

@@ -1,7 +1,8 @@
 -- A frame through the ledger by words, and the report on an account. Words that stand for nothing are answered with
 -- 255, and then nothing changes. Assumes nothing.
-use Rattle.std.specs.Prelude.{ℕ, Bool, cond, ◌&&◌, List, [], ◌∷◌, eqb, length, get_or}
-use Rattle.refusals.specs.Refusals.{number_of}
+use Rattle.std.specs.Prelude.{ℕ, Bool, cond, ◌&&◌, List, [], ◌∷◌, length, get_or, Result as OneOf, Ok, Err}
+use Rattle.refusals.specs.declared.Refusal.{Refusal}
+use Rattle.refusals.specs.Refusals.{number_in}
 use Rattle.part.specs.Frame.{Lent}
 use Rattle.ledger.specs.declared.Reported.{Reported}
 use Rattle.ledger.specs.declared.Running.{Running}
@@ -100,9 +101,9 @@ closing running now old =
 abbrev pub is_report : ℕ → Bool
 is_report long = is_lent 3 3 long
 
-abbrev pub report_number : Reported → List ℕ → ℕ
-report_number r line = cond (is_report (length line)) (number_of r.refusal) 255
+abbrev pub report_number : OneOf Reported Refusal → List ℕ → ℕ
+report_number r line = cond (is_report (length line)) (number_in r) 255
 
-abbrev pub report_words : Reported → List ℕ → List ℕ
-report_words r line =
-    written_if (eqb (number_of r.refusal) 0 && is_report (length line)) (r.total ∷ r.most ∷ r.number ∷ []) line
+abbrev pub report_words : OneOf Reported Refusal → List ℕ → List ℕ
+report_words (Ok r) line = written_if (is_report (length line)) (r.total ∷ r.most ∷ r.number ∷ []) line
+report_words (Err refusal) line = line

@@ -10,12 +10,13 @@ ghost use Rattle.ledger.specs.Ledger.{reported};
 ghost use Rattle.ledger_frame.specs.Frame as through;
 ghost use Rattle.face_ledger.specs.Words as words;
 
+use calls::{Call, Lent};
 use face_frame::reply;
 use face_words::{
-    UNREAD, as_word, device_of, is_answer, is_lent, is_record, is_settings, is_signals,
-    settings_of, signals_of, word, write,
+    UNREAD, device_of, is_answer, is_lent, is_record, is_settings, is_signals, settings_of,
+    signals_of, word, write,
 };
-use ledger::Running;
+use ledger::{Ledger, Running};
 use ledger_frame::frame_for;
 
 // How many words the running operation has.
@@ -40,49 +41,6 @@ fn put_running(after: Running, running: &mut [u64])
 {
     let numbers = [after.account, after.billed];
     write(true, running, RUNNING, &numbers);
-}
-
-// A frame whose words all stand for something.
-fn told_for(
-    device: &mut [u64],
-    settings: &[u64],
-    signals: &[u64],
-    array: &mut [u8],
-    register: &mut [u8],
-    input: &[u8],
-    output: &mut [u8],
-    answer: &mut [u64],
-    account: u64,
-    running: &mut [u64],
-    totals: &mut [u64; 256],
-    most: &mut [u64; 256],
-    numbers: &mut [u64; 256],
-) -> u64
-    requires { words.is_call_for (handed device.old settings.now signals.now input.now answer.old)
-        (words.ticket account running.old totals.old most.old numbers.old) ≡ true }
-    ensures { words.left_for
-        (left result device.new answer.new (lent array.new register.new output.new))
-        running.new totals.new most.new numbers.new ≡
-        words.told (handed device.old settings.now signals.now input.now answer.old)
-        (words.ticket account running.old totals.old most.old numbers.old)
-        (through.frame
-        (call_of (handed device.old settings.now signals.now input.now answer.old))
-        (lent array.old register.old output.old) account
-        (words.ledger_of
-        (words.ticket account running.old totals.old most.old numbers.old))) }
-{
-    let known = device_of(device);
-    let durations = settings_of(settings);
-    let levels = signals_of(signals);
-    let before = running_of(running);
-    let booked = frame_for(
-        known, durations, array, register, input, levels, output, account, before, totals, most,
-        numbers,
-    );
-    let after = booked.running;
-    put_running(after, running);
-    let answered = booked.answer;
-    reply(answered, device, answer)
 }
 
 // One call, one chip-select frame, for an account: its number is the refusal's, 0 if the call is accepted. The words of
@@ -115,10 +73,26 @@ pub fn oxterin_ledger_frame(
         & is_answer(answer.len())
         & is_lent(RUNNING, RUNNING, running.len())
     {
-        return told_for(
-            device, settings, signals, array, register, input, output, answer, account, running,
-            totals, most, numbers,
-        );
+        let call = Call {
+            device: device_of(device),
+            settings: settings_of(settings),
+            input,
+            signals: signals_of(signals),
+        };
+        let mut lent = Lent {
+            array,
+            register,
+            output,
+        };
+        let mut ledger = Ledger {
+            totals,
+            most,
+            numbers,
+            running: running_of(running),
+        };
+        let came = frame_for(&call, &mut lent, account, &mut ledger);
+        put_running(ledger.running, running);
+        return reply(call.device, came, device, answer);
     }
     UNREAD
 }
@@ -142,17 +116,14 @@ pub fn oxterin_close(
         (words.tables old_totals.old old_most.old old_numbers.old) }
 {
     if is_lent(RUNNING, RUNNING, running.len()) {
-        let before = running_of(running);
-        let stays = ledger::close(
-            before,
+        let mut ledger = Ledger {
             totals,
             most,
             numbers,
-            old_totals,
-            old_most,
-            old_numbers,
-        );
-        put_running(stays, running);
+            running: running_of(running),
+        };
+        ledger.close(old_totals, old_most, old_numbers);
+        put_running(ledger.running, running);
         return 0;
     }
     UNREAD
@@ -172,12 +143,17 @@ pub fn oxterin_report<'a>(
         words.report_words (reported account totals.now most.now numbers.now) line.old }
 {
     if is_lent(REPORT, REPORT, line.len()) {
-        let reported = ledger::report(totals, most, numbers, account);
-        let refusal = reported.refusal;
-        let number = as_word(refusal.number());
-        let told = [reported.total, reported.most, reported.number];
-        write(number == 0, line, REPORT, &told);
-        return number;
+        return match ledger::report(totals, most, numbers, account) {
+            Ok(reported) => {
+                write(
+                    true,
+                    line,
+                    REPORT,
+                    &[reported.total, reported.most, reported.number],
+                )
+            }
+            Err(refusal) => u64::from(refusal.number()),
+        };
     }
     UNREAD
 }

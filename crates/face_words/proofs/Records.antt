@@ -1,16 +1,15 @@
 -- Words that stand for a record are that record's, and a record's words stand for it. Assumes nothing.
-use Prim.Native.Nat.{ℕ, zero, suc, ◌≤◌}
-use mathlib.Core.Bool.{Bool, true, false, ◌&&◌, and-eq-true_iff}
+use Prim.Native.Nat.{ℕ, zero, suc, ◌<◌, ◌+◌}
+use mathlib.Core.Bool.{true, ◌&&◌}
 use mathlib.Core.List.{List, [], ◌∷◌}
 use mathlib.Core.Path.{◌≡◌, refl, sym, ap, ◌∙◌}
-use native.Mathlib.Decide.{ℕ_discrete}
 use native.Mathlib.Omega.{arith}
-use borrow.Author.Tests.{leb-true, ltb-true}
-use lib.Dec.{leb}
-use lib.ListN.{length, get_or}
+use lib.ListN.{length, get_or, take}
 use lib.Seq.{take_all}
+use Rattle.std.proofs.Common.{rules, tests}
+use Rattle.std.specs.List.{between, list_all}
+use Rattle.std.proofs.lemmas.List.Folds.{list_all_more}
 use Rattle.device.specs.declared.Device.{Device}
-use Rattle.device.specs.declared.Mode.{Mode}
 use Rattle.face_words.specs.Words.{record_words, settings_words, is_lent, record_lent, as_lent, word_of, is_flag}
 use Rattle.face_words.specs.Words.{flag_of, mode_number, is_mode, mode_of, packed, is_record, device_of, is_settings}
 use Rattle.face_words.specs.Words.{settings_of}
@@ -36,11 +35,7 @@ spelled_out n ws e = rw (← e) (all_spelled ws)
 
 -- a list that no caller may lend in part has its words
 pub lent_whole : (all long : ℕ) → is_lent all all long ≡ true → long ≡ all
-lent_whole all long e =
-    let both = (and-eq-true_iff (leb all long) (leb long all)).0 e in
-    let enough : all ≤ long = leb-true all long both.0 in
-    let most : long ≤ all = leb-true long all both.1 in
-    omega arith
+lent_whole all long e = search (rules, tests)
 
 -- what is written over as many words is written whole
 pub written_whole : (lent new : List ℕ) → length new ≡ length lent → as_lent lent new ≡ new
@@ -58,32 +53,23 @@ pub record Right (ws : List ℕ) : Type 0 where
 
 pub record_right : (ws : List ℕ) → is_record ws ≡ true → Right ws
 unfolding is_record
-record_right ws e =
-    let l = record_lent (length ws) in
-    let flag : ℕ → Bool = λ k. is_flag (get_or ws k 0) in
-    let a = (and-eq-true_iff (l && flag 0 && flag 1 && flag 2 && flag 3 && flag 4) (is_mode (get_or ws 5 0))).0 e in
-    let b = (and-eq-true_iff (l && flag 0 && flag 1 && flag 2 && flag 3) (flag 4)).0 a.0 in
-    let c = (and-eq-true_iff (l && flag 0 && flag 1 && flag 2) (flag 3)).0 b.0 in
-    let d = (and-eq-true_iff (l && flag 0 && flag 1) (flag 2)).0 c.0 in
-    let f = (and-eq-true_iff (l && flag 0) (flag 1)).0 d.0 in
-    let g = (and-eq-true_iff l (flag 0)).0 f.0 in
-    record { long = g.0; bpl = g.1; bp0 = f.1; wel = d.1; rste = c.1; used = b.1; mode = a.1 }
+record_right ws e = search (rules, tests)
+
+-- a record's words are five flags and a mode
+pub flags_and_mode : (ws : List ℕ) → record_lent (length ws) ≡ true
+    → is_record ws ≡ (list_all is_flag (between 0 5 ws) && is_mode (get_or ws 5 0))
+unfolding is_record
+flags_and_mode ws e = rw (e, more 4 (omega arith), more 3 (omega arith), more 2 (omega arith), more 1 (omega arith), more 0 (omega arith)) refl
+  where
+    more : (n : ℕ) → n < record_words → list_all is_flag (take (n + 1) ws) ≡ (list_all is_flag (take n ws) && is_flag (get_or ws n 0))
+    more n l = list_all_more is_flag ws n 0 (omega (arith, lent_whole record_words (length ws) e))
 
 -- a flag's word is the word of its flag
 flag_back : (w : ℕ) → is_flag w ≡ true → word_of (flag_of w) ≡ w
-flag_back w e = by (ℕ_discrete w 1)
-  where
-    by : Dec (w ≡ 1) → word_of (flag_of w) ≡ w
-    by (yes q) = rw q
-    by (no q) = let l = ltb-true w 2 e in let z : w ≡ 0 = omega arith in rw z
+flag_back w e = search (rules, tests)
 
 mode_back : (w : ℕ) → is_mode w ≡ true → mode_number (mode_of w) ≡ w
-mode_back w e = by (ℕ_discrete w 0) (ℕ_discrete w 1)
-  where
-    by : Dec (w ≡ 0) → Dec (w ≡ 1) → mode_number (mode_of w) ≡ w
-    by (yes q) r = rw q
-    by (no q) (yes r) = rw r
-    by (no q) (no r) = let l = ltb-true w 3 e in let z : w ≡ 2 = omega arith in rw z
+mode_back w e = search (rules, tests)
 
 -- words that stand for a record are the words of what they stand for
 pub same_words : (ws : List ℕ) → is_record ws ≡ true → packed (device_of ws) ≡ ws
@@ -107,29 +93,11 @@ pub same_durations : (ws : List ℕ) → is_settings ws ≡ true → (settings_o
 unfolding settings_of spelled
 same_durations ws e = spelled_out settings_words ws (lent_whole settings_words (length ws) e)
 
-flag_is : (b : Bool) → is_flag (word_of b) ≡ true
-flag_is true = refl
-flag_is false = refl
-
-flag_told : (b : Bool) → flag_of (word_of b) ≡ b
-flag_told true = refl
-flag_told false = refl
-
-mode_is : (m : Mode) → is_mode (mode_number m) ≡ true
-mode_is Mode.Awake = refl
-mode_is Mode.Deep = refl
-mode_is Mode.UltraDeep = refl
-
-mode_told : (m : Mode) → mode_of (mode_number m) ≡ m
-mode_told Mode.Awake = refl
-mode_told Mode.Deep = refl
-mode_told Mode.UltraDeep = refl
-
 -- a record's words stand for it
 pub is_record_lem : (d : Device) → is_record (packed d) ≡ true
 unfolding is_record
-is_record_lem d = rw (mode_is d.mode, flag_is d.used, flag_is d.rste, flag_is d.wel, flag_is d.bp0, flag_is d.bpl)
+is_record_lem d = search (rules, tests)
 
 pub same_record : (d : Device) → device_of (packed d) ≡ d
 unfolding device_of
-same_record d = rw (mode_told d.mode, flag_told d.used, flag_told d.rste, flag_told d.wel, flag_told d.bp0, flag_told d.bpl)
+same_record d = search (rules, tests)

@@ -4,55 +4,33 @@
 
 ghost use Rattle.std.specs.Prelude.{◌&&◌, [], ◌∷◌, ◌≡◌, ◌≤◌, length, get_or};
 ghost use Rattle.part.specs.Words as part;
-ghost use Rattle.face_words.specs.Words.{is_lent, answer_lent, as_lent, word_of, mode_number, mode_of, memory_of};
+ghost use Rattle.face_words.specs.Words.{is_lent, answer_lent, mode_of, memory_of};
 ghost use Rattle.face_words.specs.Words.{packed, is_record, device_of, is_settings, settings_of, is_signals};
 ghost use Rattle.face_words.specs.Words.{signals_of, outcome_number, cause_place, number_if, written_if};
-ghost use Rattle.judge.specs.Causes.{cause_words};
+ghost use Rattle.judge.specs.Causes.{words_in};
 
 use calls::Signals;
 use device::{Device, Mode};
 use judge::{Cause, Outcome};
 use memories::Memory;
 use settings::Settings;
-
-// A byte as a word.
-pub fn as_word(byte: u8) -> u64
-    ensures { result ≡ byte }
-{
-    byte as u64
-}
+use std::array;
 
 // The word at a place, or 0 if there are fewer.
 pub fn word(words: &[u64], place: usize) -> u64
     ensures { result ≡ get_or words.now place 0 }
 {
-    if place < words.len() {
-        return words[place];
-    }
-    0
+    words.get(place).copied().unwrap_or(0)
 }
 
 // Whether a list may be lent with so many words: those of the oldest caller, or more, up to all.
 pub fn is_lent(oldest: usize, all: usize, long: usize) -> bool
     ensures { result ≡ is_lent oldest all long }
 {
-    (oldest <= long) & (long <= all)
+    oldest <= long && long <= all
 }
 
-// The new words take the place of those that are lent.
-fn put(words: &mut [u64], new: &[u64])
-    requires { length words.old ≤ length new.now }
-    ensures { words.new ≡ as_lent words.old new.now }
-{
-    let lent = words.len();
-    let mut i = 0;
-    while i < lent {
-        words[i] = new[i];
-        i += 1;
-    }
-}
-
-// The number that says that words stand for nothing.
+// The number that says that words stand for nothing; the C interface takes numbers.
 pub const UNREAD: u64 = 255;
 
 // How many words the record, the settings, the signals and the answer have, and how many signals and words of an answer
@@ -69,84 +47,67 @@ pub const ANSWER: usize = 4;
 
 pub const FIRST_ANSWER: usize = 3;
 
-// The new words take the place of the old ones, as far as these are lent, if what they come from is right and enough are lent.
+// The new words take the place of the old ones, as far as these are lent, if what they come from is right and enough are
+// lent. The flag is there because the clauses of `write` say what is done where nothing is right, and the number because
+// the C interface lends words and takes numbers back.
 pub fn write(right: bool, words: &mut [u64], oldest: usize, new: &[u64]) -> u64
     ensures value { result ≡ number_if (right && is_lent oldest (length new.now) (length words.old)) }
     ensures words_after { words.new ≡
         written_if (right && is_lent oldest (length new.now) (length words.old)) new.now words.old }
 {
-    if right & is_lent(oldest, new.len(), words.len()) {
-        put(words, new);
+    let lent = words.len();
+    if right && is_lent(oldest, new.len(), lent) {
+        words.copy_from_slice(&new[..lent]);
         return 0;
     }
     UNREAD
 }
 
-// A flag as a word.
-fn word_of(flag: bool) -> u64
-    ensures { result ≡ word_of flag }
-{
-    if flag { 1 } else { 0 }
-}
-
-fn mode_number(mode: Mode) -> u64
-    ensures { result ≡ mode_number mode }
-{
-    match mode {
-        Mode::Awake => 0,
-        Mode::Deep => 1,
-        Mode::UltraDeep => 2,
-    }
-}
-
+// The mode of any word, for so the definition `mode_of` has it: `is_record` refuses the words that are no mode's.
 fn mode_of(word: u64) -> Mode
     ensures { result ≡ mode_of word }
 {
-    if word == 0 {
-        return Mode::Awake;
+    match word {
+        0 => Mode::Awake,
+        1 => Mode::Deep,
+        _ => Mode::UltraDeep,
     }
-    if word == 1 {
-        return Mode::Deep;
-    }
-    Mode::UltraDeep
 }
 
+// The memory of any word, for so the definition `memory_of` has it: callers refuse the words that are no memory's.
 pub fn memory_of(word: u64) -> Memory
     ensures { result ≡ memory_of word }
 {
-    if word == 0 {
-        return Memory::Array;
+    match word {
+        0 => Memory::Array,
+        _ => Memory::Register,
     }
-    Memory::Register
 }
 
 // The record as seven words.
-pub fn pack(device: Device) -> [u64; 7]
+pub fn pack(device: Device) -> [u64; RECORD]
     ensures { result ≡ packed device }
 {
-    let mode = device.mode;
     [
-        word_of(device.bpl),
-        word_of(device.bp0),
-        word_of(device.wel),
-        word_of(device.rste),
-        word_of(device.used),
-        mode_number(mode),
+        u64::from(device.bpl),
+        u64::from(device.bp0),
+        u64::from(device.wel),
+        u64::from(device.rste),
+        u64::from(device.used),
+        device.mode as u64,
         device.busy,
     ]
 }
 
 // Whether these words are a record's.
+#[tactic(auto, unfolding(crate::specs::Words::is_record))]
 pub fn is_record(words: &[u64]) -> bool
     ensures { result ≡ is_record words.now }
 {
-    is_lent(RECORD, RECORD, words.len())
-        & (word(words, 0) < 2)
-        & (word(words, 1) < 2)
-        & (word(words, 2) < 2)
-        & (word(words, 3) < 2)
-        & (word(words, 4) < 2)
-        & (word(words, 5) < 3)
+    if !is_lent(RECORD, RECORD, words.len()) {
+        return false;
+    }
+    words[..5].iter().all(|&flag| flag < 2) && words[5] < 3
 }
 
 #[tactic(auto, unfolding(crate::specs::Words::device_of))]
@@ -176,16 +137,7 @@ pub fn settings_of(words: &[u64]) -> Settings
     ensures { result ≡ settings_of words.now }
 {
     Settings {
-        ticks: [
-            word(words, 0),
-            word(words, 1),
-            word(words, 2),
-            word(words, 3),
-            word(words, 4),
-            word(words, 5),
-            word(words, 6),
-            word(words, 7),
-        ],
+        ticks: array::from_fn(|place| word(words, place)),
     }
 }
 
@@ -193,7 +145,7 @@ pub fn settings_of(words: &[u64]) -> Settings
 pub fn is_signals(words: &[u64]) -> bool
     ensures { result ≡ is_signals words.now }
 {
-    is_lent(FIRST_SIGNALS, SIGNALS, words.len()) & (word(words, 1) < 2)
+    is_lent(FIRST_SIGNALS, SIGNALS, words.len()) && word(words, 1) < 2
 }
 
 pub fn signals_of(words: &[u64]) -> Signals
@@ -214,22 +166,21 @@ pub fn is_answer(long: usize) -> bool
     is_lent(FIRST_ANSWER, ANSWER, long)
 }
 
-// The words of an answer, as far as they are lent. The lengths are apart because that is faster.
+// The words of an answer, as far as they are lent. The lengths are apart because that is faster: the compiler then knows
+// how many words each copy has.
 pub fn tell(answer: &mut [u64], outcome: u64, first: u64, driven: u64, cause: u64)
     ensures { answer.new ≡
         written_if (answer_lent (length answer.old)) (outcome ∷ first ∷ driven ∷ cause ∷ [])
         answer.old }
 {
     if answer.len() == ANSWER {
-        let all = [outcome, first, driven, cause];
-        write(true, answer, ANSWER, &all);
+        write(true, answer, ANSWER, &[outcome, first, driven, cause]);
     } else {
-        let older = [outcome, first, driven];
-        write(true, answer, FIRST_ANSWER, &older);
+        write(true, answer, FIRST_ANSWER, &[outcome, first, driven]);
     }
 }
 
-// The outcome's place among the outcomes.
+// The outcome's place among the outcomes, as the C header numbers them: what carries a cause is no plain number.
 pub fn outcome_number(outcome: Outcome) -> u64
     ensures { result ≡ outcome_number (part.word_of outcome) }
 {
@@ -242,22 +193,22 @@ pub fn outcome_number(outcome: Outcome) -> u64
     }
 }
 
-// The cause that an outcome carries.
-fn cause_in(outcome: Outcome) -> Cause
+// The cause that an outcome carries, if it carries one.
+fn cause_in(outcome: Outcome) -> Option<Cause>
     ensures { result ≡ part.cause_in outcome }
 {
     match outcome {
-        Outcome::Nothing(cause) => cause,
-        Outcome::Read => Cause::None,
-        Outcome::Control => Cause::None,
-        Outcome::Aborted(cause) => cause,
-        Outcome::Begun => Cause::None,
+        Outcome::Nothing(cause) | Outcome::Aborted(cause) => Some(cause),
+        Outcome::Read | Outcome::Control | Outcome::Begun => None,
     }
 }
 
 // Its place among the causes; 0 for none.
 pub fn cause_number(outcome: Outcome) -> u64
-    ensures { result ≡ cause_place (cause_words (part.cause_in outcome)) }
+    ensures { result ≡ cause_place (words_in (part.cause_in outcome)) }
 {
-    as_word(cause_in(outcome).number())
+    match cause_in(outcome) {
+        Some(cause) => u64::from(cause.number()),
+        None => 0,
+    }
 }

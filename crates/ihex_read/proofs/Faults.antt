@@ -47,6 +47,10 @@ pub sound : (size upper : ℕ) (line : List ℕ) → fault_of size upper line �
 unfolding fault_of
 sound size upper line e = (passed _ _ _ e).0
 
+-- so it is whole
+pub good_whole : (size upper : ℕ) (line : List ℕ) → fault_of size upper line ≡ 0 → is_whole line ≡ true
+good_whole size upper line e = sound_whole line (sound size upper line e)
+
 pub data_inside : (size upper : ℕ) (line : List ℕ) → fault_of size upper line ≡ 0 → kind_of line ≡ 0 → 0 < length_of line → start_of upper line + length_of line ≤ size
 unfolding fault_of
 data_inside size upper line e k l =

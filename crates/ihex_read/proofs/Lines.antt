@@ -1,34 +1,59 @@
 -- The laws of lines: the first line of a text, where it ends and where the next one begins. Assumes nothing.
-use Prim.Native.Nat.{ℕ, zero, suc, ◌+◌, ◌<◌, ◌≤◌}
-use mathlib.Core.Bool.{Bool, true, false, true≢false, cond, ◌&&◌, ◌||◌, and-false, or-false, and-eq-true_iff}
+use Prim.Native.Nat.{ℕ, zero, suc, ◌+◌, ◌-◌, ◌<◌, ◌≤◌}
+use mathlib.Core.Bool.{Bool, true, false, true≢false, cond, ◌&&◌, ◌||◌, and-false, and-true, and-eq-true_iff}
 use mathlib.Core.List.{List, [], ◌∷◌}
 use mathlib.Core.Path.{◌≡◌, refl, sym, ap, ◌∙◌}
 use native.Mathlib.Nat.{zero-add, suc-add, not-suc-le-zero, le_of_suc-le-suc}
-use native.Mathlib.Decide.{dec_lt}
+use native.Mathlib.Decide.{dec_lt, ℕ_discrete}
 use native.Mathlib.Omega.{arith}
+use Rattle.std.specs.Bool.{◌==◌}
+use Rattle.std.specs.List.{starts_with}
+use borrow.Author.Tests.{eq-eqb, ne_eqb}
 use lib.Dec.{eqb}
-use lib.ListN.{length, get_or, drop, drop_of_length-le, get_or-eq_default}
+use Rattle.std.proofs.lemmas.Slice.{between_to_end}
+use lib.ListN.{length, get_or, take, drop, drop_of_length-le, get_or-eq_default}
 use lib.Seq.{drop-cons, drop-drop, get_or-drop}
 use Rattle.ihex_layout.specs.Layout.{line_feed, carriage_return}
 use Rattle.ihex_read.specs.Reader.{headed, behind, lines_in, first, line_at, is_end, place_of}
 
--- What stands at a place: the end of the text, one character, or more.
-pub end_none : (text : List ℕ) (at : ℕ) → length text ≤ at → is_end (drop at text) ≡ true
-unfolding is_end
-end_none text at l = rw (drop_of_length-le text l)
+-- a text from a place on
+pub to_end : (text : List ℕ) (at : ℕ) → take (length text - at) (drop at text) ≡ drop at text
+to_end text at = between_to_end text at (length text) (omega arith)
 
-pub end_one : (text : List ℕ) (at : ℕ) → length text ≡ suc at → is_end (drop at text) ≡ eqb (get_or text at 0) line_feed
-unfolding is_end
-end_one text at l =
-    rw (drop-cons text at 0 (omega arith), drop_of_length-le text {i = suc at} (omega arith), and-false (eqb (get_or text at 0) carriage_return))
-    (or-false (eqb (get_or text at 0) line_feed))
-
+-- what stands at a place inside the text
 pub end_two : (text : List ℕ) (at : ℕ) → at < length text
     → is_end (drop at text) ≡ (eqb (get_or text at 0) line_feed || (eqb (get_or text at 0) carriage_return && eqb (get_or text (at + 1) 0) line_feed))
 unfolding is_end
 end_two text at l =
     let e : suc at + 0 ≡ at + 1 = omega arith in
     rw (drop-cons text at 0 l, get_or-drop (suc at) text 0 0, e)
+
+turned : (a b : ℕ) → eqb a b ≡ eqb b a
+turned a b = by (ℕ_discrete a b)
+  where
+    by : Dec (a ≡ b) → eqb a b ≡ eqb b a
+    by (yes p) = rw (eq-eqb a b p, eq-eqb b a (sym p))
+    by (no p) = rw (ne_eqb a b p, ne_eqb b a (λ q. p (sym q)))
+
+-- so the library tests for it
+pub end_test : (text : List ℕ)
+    → is_end text
+    ≡ (length text == 0
+    || (starts_with eqb text (line_feed ∷ []) || starts_with eqb text (carriage_return ∷ line_feed ∷ [])))
+unfolding is_end
+end_test [] = refl
+end_test (c ∷ []) =
+    rw (turned line_feed c, and-true, and-false (eqb carriage_return c), and-false (eqb c carriage_return)) refl
+end_test (c ∷ d ∷ text) =
+    rw (
+      ne_eqb (suc (suc (length text))) 0 (λ e. omega arith),
+      turned line_feed c,
+      turned line_feed d,
+      turned carriage_return c,
+      and-true (eqb c line_feed),
+      and-true (eqb d line_feed),
+    )
+    refl
 
 -- where LF comes next the line is over
 over_at_lf : (text : List ℕ) → eqb (get_or text 0 0) line_feed ≡ true → first (lines_in text) ≡ []
@@ -239,7 +264,6 @@ place_some (c ∷ text) l = omega arith
 -- the lines from a place of the text on
 pub lines_at_lem : (text : List ℕ) (at : ℕ) → at < length text
     → lines_in (drop at text) ≡ line_at text at ∷ lines_in (drop (at + place_of 1 (drop at text)) text)
-unfolding line_at
 lines_at_lem text at l =
     rw (drop-cons text at 0 l) (lines_on (get_or text at 0) (drop (suc at) text)) ∙
     ap (λ (s : List ℕ). line_at text at ∷ lines_in s) (drop-drop (place_of 1 (drop at text)) at text)

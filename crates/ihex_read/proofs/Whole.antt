@@ -1,17 +1,16 @@
 -- A whole record: what the reader finds in the text from the line's first character on, and what the line says, are the same. Assumes nothing.
 use Prim.Native.Nat.{ℕ, zero, suc, ◌+◌, ◌-◌, ◌*◌, ◌/◌, ◌<◌, ◌≤◌}
-use mathlib.Core.Bool.{Bool, true, false, ◌&&◌, and-eq-true_iff}
+use mathlib.Core.Bool.{Bool, true, false, true≢false, ◌&&◌, and-eq-true_iff}
 use mathlib.Core.List.{List}
 use mathlib.Core.Path.{◌≡◌, refl, sym, ap, ◌∙◌}
 use native.Mathlib.Decide.{dec_lt, ℕ_discrete}
-use native.Mathlib.Nat.{add-zero}
 use native.Mathlib.Omega.{arith}
 use borrow.Author.Tests.{ltb-true, ltb-false, eqb-true, eq-eqb, ne_eqb}
 use lib.Dec.{eqb, ltb}
-use lib.ListN.{length, get_or, drop, length-drop, get_or-eq_default}
-use lib.Seq.{get_or-drop, drop-drop}
+use lib.ListN.{length, get_or, drop, get_or-eq_default}
+use Rattle.std.specs.Prelude.{cond, Option, Some, None, is_some, unwrap_or}
 use Rattle.ihex_layout.specs.Layout.{colon, line_feed, carriage_return, digit_of, byte_at, length_of, asked, sum_of}
-use Rattle.ihex_read.specs.Reader.{lines_in, first, line_at, is_end, place_of, pairs, is_whole}
+use Rattle.ihex_read.specs.Reader.{lines_in, first, is_end, place_of, pairs, is_whole}
 use Rattle.ihex_read.proofs.Lines.{first_long, first_reads, first_ends, first_is, place_first}
 
 -- a character with this number is no digit
@@ -36,18 +35,13 @@ pair_digits : (text : List ℕ) (k : ℕ) → byte_at text k < 256 → (digit_of
 unfolding byte_at
 pair_digits text k l = (omega arith, omega arith)
 
--- the byte k of the record whose line begins at a place, from the two characters there
-pub byte_there : (text : List ℕ) (at k : ℕ)
-    → byte_at (drop at text) k ≡ digit_of (get_or text (at + (2 * k + 1)) 0) * 16 + digit_of (get_or text (at + (2 * k + 2)) 0)
+-- what was read of a pair's two characters, if they are digits, is the pair
+pub byte_read : (text : List ℕ) (k h l : ℕ)
+    → (digit_of (get_or text (2 * k + 1) 0) < 256 → h ≡ digit_of (get_or text (2 * k + 1) 0))
+    → (digit_of (get_or text (2 * k + 2) 0) < 256 → l ≡ digit_of (get_or text (2 * k + 2) 0)) → byte_at text k < 256
+    → h * 16 + l ≡ byte_at text k
 unfolding byte_at
-byte_there text at k = rw (get_or-drop at text (2 * k + 1) 0, get_or-drop at text (2 * k + 2) 0)
-
-pub byte_read : (text : List ℕ) (at k h l : ℕ) → (digit_of (get_or text (at + (2 * k + 1)) 0) < 256 → h ≡ digit_of (get_or text (at + (2 * k + 1)) 0))
-    → (digit_of (get_or text (at + (2 * k + 2)) 0) < 256 → l ≡ digit_of (get_or text (at + (2 * k + 2)) 0)) → byte_at (drop at text) k < 256
-    → h * 16 + l ≡ byte_at (drop at text) k
-byte_read text at k h l f g m =
-    let e = byte_there text at k in
-    rw (f (omega arith), g (omega arith)) (sym e)
+byte_read text k h l f g m = let w = pair_digits text k m in rw (f w.0, g w.1) refl
 
 -- each of n pairs is one
 pair_of : (text : List ℕ) (n k : ℕ) → pairs text n ≡ true → k < n → byte_at text k < 256
@@ -83,10 +77,6 @@ agree : (a b : Bool) → (a ≡ true → b ≡ true) → (b ≡ true → a ≡ t
 agree true b f g = sym (f refl)
 agree false true f g = g refl
 agree false false f g = refl
-
--- of three tests the one in the middle
-pub middle : (a b c : Bool) → (a && b && c) ≡ true → b ≡ true
-middle a b c e = ((and-eq-true_iff a b).0 ((and-eq-true_iff (a && b) c).0 e).0).1
 
 -- What a text says of its first line, as far as the line goes.
 module _ (text : List ℕ) where
@@ -149,119 +139,110 @@ module _ (text : List ℕ) where
         ends = rw (l, a) at (first_ends text);
       }
 
-  -- what is not whole in the text is no whole line
-  not_whole : (pairs text (asked text) ≡ true → ⊥) → is_whole line ≡ false
-  not_whole h = by (is_whole line) refl
+  -- where it does not stand there the line is not whole
+  not_standing : (Standing → ⊥) → is_whole line ≡ false
+  not_standing h = by (is_whole line) refl
     where
       by : (b : Bool) → is_whole line ≡ b → b ≡ false
-      by true e = absurd (h (whole_standing e).paired)
+      by true e = absurd (h (whole_standing e))
       by false e = refl
 
   -- so a text that is too short for the length, or a length that is no pair of digits
   too_short : length text < 2 * asked text + 1 → is_whole line ≡ false
   too_short l =
-      not_whole (λ e. let p : 2 * (length_of text + 4) + 2 < length text = pairs_inside text (asked text) (length_of text + 4) e (omega arith) in omega arith)
+      not_standing (λ s. omega (arith, pairs_inside text (asked text) (length_of text + 4) s.paired (omega arith)))
 
   no_length : ltb (length_of text) 256 ≡ false → is_whole line ≡ false
   no_length z =
-      not_whole (λ e. let p : length_of text < 256 = pair_of text (asked text) 0 e (omega arith) in let q : 256 ≤ length_of text = ltb-false (length_of text) 256 z in omega arith)
-
-  -- whether the line is whole, as the reader tests it
-  whole_test : is_whole line ≡ (eqb (get_or text 0 0) colon && pairs text (asked text) && is_end (drop (2 * asked text + 1) text))
-  whole_test =
-      agree (is_whole line) (eqb (get_or text 0 0) colon && pairs text (asked text) && is_end (drop (2 * asked text + 1) text))
-      (λ e.
-      let s : Standing = whole_standing e in
-      rw (s.colon_first, s.paired, s.ends))
-      (λ e.
-      let both = (and-eq-true_iff (eqb (get_or text 0 0) colon && pairs text (asked text)) (is_end (drop (2 * asked text + 1) text))).0 e in
-      let front = (and-eq-true_iff (eqb (get_or text 0 0) colon) (pairs text (asked text))).0 both.0 in
-      standing_whole
-      (record {
-        colon_first = eqb-true (get_or text 0 0) colon front.0;
-        paired = front.1;
-        ends = both.1;
-      }))
+      not_standing (λ s.
+      omega (arith, pair_of text (asked text) 0 s.paired (omega arith), ltb-false (length_of text) 256 z))
 
   -- What is known where the line is whole.
   module _ (e : is_whole line ≡ true) where
     here : length line ≡ 2 * asked text + 1
     here = long (whole_standing e)
 
-    whole_inside : 2 * asked text + 1 ≤ length text
-    whole_inside = let l : length line ≤ length text = first_long text in omega (arith, here)
+    -- its pairs lie in the text
+    pub whole_long : 2 * length_of text + 11 ≤ length text
+    whole_long = let l : length line ≤ length text = first_long text in omega (arith, here)
 
-    whole_byte : (k : ℕ) → k < asked text → byte_at line k ≡ byte_at text k
-    whole_byte k l = byte_line k (omega (arith, here))
+    -- eleven characters at least
+    pub whole_some : 10 < length text
+    whole_some = omega (arith, whole_long)
 
-    whole_small : (k : ℕ) → k < asked text → byte_at text k < 256
-    whole_small k l = pair_of text (asked text) k (whole_standing e).paired l
+    -- and are bytes
+    pub byte_small : (k : ℕ) → k < asked text → byte_at text k < 256
+    byte_small k l = pair_of text (asked text) k (whole_standing e).paired l
 
-    whole_sum : sum_of line (asked line) ≡ sum_of text (asked text)
-    whole_sum = rw (same_length (omega (arith, here))) (sum-line (asked text) (omega (arith, here)))
+    -- which are the line's
+    pub same_byte : (k : ℕ) → k < asked text → byte_at line k ≡ byte_at text k
+    same_byte k l = byte_line k (omega (arith, here))
 
-    whole_end : is_end (drop (2 * asked text + 1) text) ≡ true
-    whole_end = (whole_standing e).ends
+    -- what was read of one if it is a byte is the line's byte
+    pub read_byte : (k : ℕ) {r : ℕ} → k < asked text → (byte_at text k < 256 → r ≡ byte_at text k) → r ≡ byte_at line k
+    read_byte k l f = f (byte_small k l) ∙ sym (same_byte k l)
 
-    whole_next : place_of 1 text ≡ 2 * asked text + 1 + place_of 1 (drop (2 * asked text + 1) text)
-    whole_next = rw here at (place_first text)
+    -- and so they add up
+    same_sum : sum_of line (asked line) ≡ sum_of text (asked text)
+    same_sum = rw (same_length (omega (arith, here))) (sum-line (asked text) (omega (arith, here)))
 
--- what stands behind the pairs of the line that begins at a place
-past : (text : List ℕ) (at n : ℕ) → n ≡ length_of (drop at text) → drop (2 * asked (drop at text) + 1) (drop at text) ≡ drop (at + (2 * n + 11)) text
-past text at n p =
-    let far : 2 * asked (drop at text) + 1 ≡ 2 * n + 11 = omega arith in
-    drop-drop (2 * asked (drop at text) + 1) at text ∙ ap (λ (k : ℕ). drop (at + k) text) far
+    -- where it ends, and where the next line begins
+    pub whole_far : (n : ℕ) → n ≡ length_of text
+        → (is_end (drop (2 * n + 11) text) ≡ true)
+        × (place_of 1 text ≡ 2 * n + 11 + place_of 1 (drop (2 * n + 11) text))
+    whole_far n p =
+        let far : 2 * asked text + 1 ≡ 2 * n + 11 = omega arith in
+        (rw far at (whole_standing e).ends, rw (here, far) at (place_first text))
 
--- The reader's tests, at a place of the text.
-pub found : (text : List ℕ) (at n : ℕ) (w e : Bool) → n ≡ length_of (drop at text) → w ≡ pairs (drop at text) (n + 5)
-    → e ≡ is_end (drop (at + (2 * n + 11)) text) → (eqb (get_or text at 0) colon && w && e) ≡ is_whole (line_at text at)
-unfolding line_at
-found text at n w e p q r =
-    let there : get_or (drop at text) 0 0 ≡ get_or text at 0 = get_or-drop at text 0 0 ∙ ap (λ (k : ℕ). get_or text k 0) (add-zero at) in
-    rw (whole_test (drop at text), there, past text at n p, ← p, ← q, ← r)
+  -- What is found of the record: what its bytes add up to, if the line is whole.
+  abbrev pub found : Option ℕ
+  found = cond (is_whole line) (Some (sum_of line (asked line))) None
 
-pub too_short_at : (text : List ℕ) (at : ℕ) → length text - at < 2 * asked (drop at text) + 1 → is_whole (line_at text at) ≡ false
-unfolding line_at
-too_short_at text at l = too_short (drop at text) (omega (arith, length-drop at text))
+  -- so what was found says it all
+  pub found_some : (t : ℕ) → found ≡ Some t → (is_whole line ≡ true) × (t ≡ sum_of line (asked line))
+  found_some t e = by (is_whole line) refl e
+    where
+      by : (b : Bool) → is_whole line ≡ b → cond b (Some (sum_of line (asked line))) None ≡ Some t
+          → (is_whole line ≡ true) × (t ≡ sum_of line (asked line))
+      by true w f = (w, sym (ap (λ (o : Option ℕ). unwrap_or o 0) f))
+      by false w f = absurd (true≢false (sym (ap is_some f)))
 
-pub no_length_at : (text : List ℕ) (at : ℕ) → ltb (length_of (drop at text)) 256 ≡ false → is_whole (line_at text at) ≡ false
-unfolding line_at
-no_length_at text at e = no_length (drop at text) e
+  pub found_none : found ≡ None → is_whole line ≡ false
+  found_none e = by (is_whole line) refl e
+    where
+      by : (b : Bool) → is_whole line ≡ b → cond b (Some (sum_of line (asked line))) None ≡ None → is_whole line ≡ false
+      by true w f = absurd (true≢false (ap is_some f))
+      by false w f = w
 
--- What is known where the line that begins at a place is whole.
-module _ (text : List ℕ) (at : ℕ) (whole : is_whole (line_at text at) ≡ true) where
-  first_whole : is_whole (first (lines_in (drop at text))) ≡ true
-  unfolding line_at
-  first_whole = whole
+  -- nothing is found in a text that is too short for the length, or where the length is no pair of digits
+  pub found_short : length text < 2 * asked text + 1 → None ≡ found
+  found_short l = rw (too_short l)
 
-  -- its pairs lie in the text
-  pub whole_room : (k : ℕ) → k < asked (drop at text) → at + 2 * k + 2 < length text
-  whole_room k l = let w : 2 * asked (drop at text) + 1 ≤ length (drop at text) = whole_inside (drop at text) first_whole in omega (arith, length-drop at text)
+  pub found_lengthless : ltb (length_of text) 256 ≡ false → None ≡ found
+  found_lengthless z = rw (no_length z)
 
-  -- and are bytes
-  pub byte_small : (k : ℕ) → k < asked (drop at text) → byte_at (drop at text) k < 256
-  byte_small k l = whole_small (drop at text) first_whole k l
+  -- nor without the colon, or without an end behind the pairs
+  pub found_colonless : (get_or text 0 0 ≡ colon → ⊥) → None ≡ found
+  found_colonless f = rw (not_standing (λ s. f s.colon_first))
 
-  -- which are the line's
-  pub same_byte : (k : ℕ) → k < asked (drop at text) → byte_at (line_at text at) k ≡ byte_at (drop at text) k
-  unfolding line_at
-  same_byte k l = whole_byte (drop at text) whole k l
+  pub found_endless : (n : ℕ) → n ≡ length_of text → is_end (drop (2 * n + 11) text) ≡ false → None ≡ found
+  found_endless n p f =
+      let e : 2 * n + 11 ≡ 2 * asked text + 1 = omega arith in
+      rw (not_standing (λ s. true≢false (sym s.ends ∙ (rw e at f))))
 
-  pub same_sum : sum_of (line_at text at) (asked (line_at text at)) ≡ sum_of (drop at text) (asked (drop at text))
-  unfolding line_at
-  same_sum = whole_sum (drop at text) whole
-
-  -- what was read of one if it is a byte is the line's byte
-  pub read_byte : (k : ℕ) {r : ℕ} → k < asked (drop at text) → (byte_at (drop at text) k < 256 → r ≡ byte_at (drop at text) k)
-      → r ≡ byte_at (line_at text at) k
-  read_byte k l f = f (byte_small k l) ∙ sym (same_byte k l)
-
-  -- where it ends, and where the next line begins
-  pub whole_far : (n : ℕ) → n ≡ length_of (drop at text)
-      → (at + (2 * n + 11) ≤ length text) × (is_end (drop (at + (2 * n + 11)) text) ≡ true)
-      × (place_of 1 (drop at text) ≡ 2 * n + 11 + place_of 1 (drop (at + (2 * n + 11)) text))
-  whole_far n p =
-      let far : 2 * asked (drop at text) + 1 ≡ 2 * n + 11 = omega arith in
-      let rest : drop (2 * asked (drop at text) + 1) (drop at text) ≡ drop (at + (2 * n + 11)) text = past text at n p in
-      let l : at + 2 * (length_of (drop at text) + 4) + 2 < length text = whole_room (length_of (drop at text) + 4) (omega arith) in
-      (omega arith, rw rest at (whole_end (drop at text) first_whole), rw (rest, far) at (whole_next (drop at text) first_whole))
+  -- with the colon and the line's end, its pairs decide
+  pub found_pairs : (n m : ℕ) → n ≡ length_of text → m ≡ n + 5 → get_or text 0 0 ≡ colon
+      → is_end (drop (2 * n + 11) text) ≡ true
+      → cond (pairs text m) (Some (sum_of text m)) None ≡ found
+  found_pairs n m p q c f =
+      let e : 2 * n + 11 ≡ 2 * asked text + 1 = omega arith in
+      let a : m ≡ asked text = omega arith in
+      by a (pairs text (asked text))
+      (agree (is_whole line) (pairs text (asked text)) (λ e. (whole_standing e).paired)
+      (λ t. standing_whole (record { colon_first = c; paired = t; ends = rw e at f })))
+      refl
+    where
+      by : m ≡ asked text → (b : Bool) → is_whole line ≡ b → pairs text (asked text) ≡ b
+          → cond (pairs text m) (Some (sum_of text m)) None ≡ found
+      by a true w e = rw (a, e, w, same_sum w)
+      by a false w e = rw (a, e, w)

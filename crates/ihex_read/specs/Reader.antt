@@ -1,11 +1,11 @@
 -- The reader: the text's lines, why a line is refused, and what the records do to the array. Everything is judged first. Assumes nothing.
 use Rattle.std.specs.Prelude.{ℕ, zero, suc, ◌+◌, ◌-◌, ◌*◌, ◌%◌, Bool, true, cond, not, ◌&&◌, ◌||◌, List, [], ◌∷◌, ltb}
-use Rattle.std.specs.Prelude.{eqb, length, get_or, drop}
+use Rattle.std.specs.Prelude.{eqb, length, get_or, drop, Result, Ok, Err}
 use Rattle.cells.specs.Each.{Cell, each, stored}
 use Rattle.cells.specs.Range.{range}
 use Rattle.memories.specs.Sizes.{is_array}
 use Rattle.refusals.specs.Refusals.{number_of}
-use Rattle.ihex_read.specs.declared.Reading.{Reading}
+use Rattle.ihex_read.specs.declared.Fault.{Fault}
 use Rattle.ihex_layout.specs.Layout.{colon, line_feed, carriage_return, byte_at, length_of, address_of, kind_of}
 use Rattle.ihex_layout.specs.Layout.{data_at, asked, sum_of}
 
@@ -115,8 +115,9 @@ abbrev pub reading : ℕ → ℕ → Told
 reading refusal place = record { refusal = refusal; place = place }
 
 -- an answer of the code
-abbrev pub told : Reading → Told
-told r = reading (number_of r.refusal) r.place
+abbrev pub told : Result (Unit {0}) Fault → Told
+told (Ok tt) = reading 0 0
+told (Err fault) = reading (number_of fault.refusal) fault.place
 
 -- the judgement of a whole text, the upper part 0 at first
 abbrev pub judged_in : List ℕ → ℕ → Verdict
@@ -135,7 +136,7 @@ abbrev pub first : List (List ℕ) → List ℕ
 first [] = []
 first (line ∷ lines) = line
 
-unfoldable pub line_at : List ℕ → ℕ → List ℕ
+abbrev pub line_at : List ℕ → ℕ → List ℕ
 line_at text at = first (lines_in (drop at text))
 
 -- and what stands where a line ends: nothing, LF, or CR and LF

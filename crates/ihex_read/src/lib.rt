@@ -2,13 +2,14 @@
 // Nothing is required of a caller; what is wrong is refused.
 #![tactic(auto)]
 
-ghost use Rattle.std.specs.Prelude.{true, false, cond, ◌≡◌, ◌+◌, ◌*◌, ◌<◌, ◌≤◌, ltb, length, drop};
+ghost use Rattle.std.specs.Prelude.{true, false, cond, not, ◌&&◌, ◌||◌, Some, None, ◌≡◌, ◌+◌, ◌*◌, ◌<◌, ◌≤◌};
+ghost use Rattle.std.specs.Prelude.{eqb, ltb, length};
 ghost use Rattle.cells.specs.Each.{each};
-ghost use Rattle.refusals.specs.Refusals.{number_of};
+ghost use Rattle.refusals.specs.Refusals.{number_in};
 ghost use Rattle.ihex_layout.specs.Layout.{digit_of, byte_at, length_of, asked, sum_of};
 ghost use Rattle.ihex_read.specs.Reader.{
   lines_in,
-  line_at,
+  first,
   is_end,
   place_of,
   pairs,
@@ -29,237 +30,238 @@ ghost use Rattle.ihex_read.specs.Reader.{
 use memories::is_array;
 use refusals::Refusal;
 
-// The refusal, if there is one, and the place of the character at which the faulty record begins: for text after the end record the first
-// character there, for a missing end record the end of the text.
-#[derive(Clone, Copy)]
-pub struct Reading {
+// Why a text is refused, and the place of the character at which the faulty record begins: for text after the end
+// record the first character there, for a missing end record the end of the text.
+#[derive(Clone, Copy, Debug, PartialEq, Eq)]
+pub struct Fault {
     pub refusal: Refusal,
     pub place: usize,
 }
 
-// What is found of a record: whether it is whole, and what its bytes add up to.
-#[derive(Clone, Copy)]
-struct Found {
-    whole: bool,
-    total: u32,
-}
-
 // Whether a character is a digit, in either case.
+#[tactic(auto, using(crate::proofs::Values::digit_test))]
 fn is_digit(c: u8) -> bool
     ensures { result ≡ ltb (digit_of c) 256 }
 {
-    ((48 <= c) & (c < 58)) | ((65 <= c) & (c < 71)) | ((97 <= c) & (c < 103))
+    c.is_ascii_hexdigit()
 }
 
-// The number that a digit stands for: its low four bits, and nine more if it is a letter. What it is of other characters does not matter.
+// The number that a digit stands for: its low four bits, and nine more if it is a letter. What it is of other
+// characters does not matter.
+#[tactic(auto, using(crate::proofs::Values::digit_value))]
 fn digit_of(c: u8) -> usize
     ensures value { digit_of c < 256 → result ≡ digit_of c }
     ensures upper_bound { result ≤ 42 }
 {
-    (c % 16 + c / 64 * 9) as usize
+    // without a branch: with a match reading takes 3.7 times as long, too long for the aim (docs/PERFORMANCE.md)
+    usize::from(c % 16 + c / 64 * 9)
 }
 
-// Whether the byte k of the record whose line begins at `at` is a pair of digits.
-fn is_pair(text: &[u8], at: usize, k: usize) -> bool
-    requires { at + 2 * k + 2 < length text.now }
-    ensures { result ≡ ltb (byte_at (drop at text.now) k) 256 }
+// Below, `rest` is the text from the first character of a line on.
+
+// Whether the byte k of that line is a pair of digits.
+#[tactic(auto, using(crate::proofs::Values::pair_test))]
+fn is_pair(rest: &[u8], k: usize) -> bool
+    requires { 2 * k + 2 < length rest.now }
+    ensures { result ≡ ltb (byte_at rest.now k) 256 }
 {
-    is_digit(text[at + (2 * k + 1)]) & is_digit(text[at + (2 * k + 2)])
+    // without a branch: with && reading takes a sixth longer (docs/PERFORMANCE.md)
+    is_digit(rest[2 * k + 1]) & is_digit(rest[2 * k + 2])
 }
 
 // That byte, if it is a pair of digits.
-fn byte_at(text: &[u8], at: usize, k: usize) -> usize
-    requires { at + 2 * k + 2 < length text.now }
-    ensures value { byte_at (drop at text.now) k < 256 → result ≡ byte_at (drop at text.now) k }
+fn byte_at(rest: &[u8], k: usize) -> usize
+    requires { 2 * k + 2 < length rest.now }
+    ensures value { byte_at rest.now k < 256 → result ≡ byte_at rest.now k }
     ensures upper_bound { result ≤ 714 }
 {
-    digit_of(text[at + (2 * k + 1)]) * 16 + digit_of(text[at + (2 * k + 2)])
+    digit_of(rest[2 * k + 1]) * 16 + digit_of(rest[2 * k + 2])
 }
 
-// The first n bytes of the record whose line begins at `at`: whether all are pairs of digits, and what they then add up to.
-fn tally(text: &[u8], at: usize, n: usize) -> Found
-    requires { (at + 2 * n < length text.now) × (n < 512) }
-    ensures whole_value { result.whole ≡ pairs (drop at text.now) n }
-    ensures total_value { result.whole ≡ true → result.total ≡ sum_of (drop at text.now) n }
+// What the first n bytes of that line add up to; None unless all are pairs of digits.
+fn tally(rest: &[u8], n: usize) -> Option<u32>
+    requires { (2 * n < length rest.now) × (n < 512) }
+    ensures { result ≡ cond (pairs rest.now n) (Some (sum_of rest.now n)) None }
 {
     let mut whole = true;
-    let mut total = 0u32;
-    let mut i = 0;
-    while i < n {
-        whole = whole & is_pair(text, at, i);
-        total += byte_at(text, at, i) as u32;
-        i += 1;
+    let mut total = 0;
+    // without a branch: where it leaves at the first wrong pair, reading takes 1.4 times as long
+    for k in 0..n {
+        whole &= is_pair(rest, k);
+        total += byte_at(rest, k) as u32;
     }
-    Found { whole, total }
+    whole.then_some(total)
 }
 
-// Whether a line can end at `at`: the text does, or an ending stands there.
-fn is_end(text: &[u8], at: usize) -> bool
-    requires { at ≤ length text.now }
-    ensures { result ≡ is_end (drop at text.now) }
+// Whether a line can end here: the text does, or an ending stands here.
+#[tactic(auto, using(crate::proofs::Lines::end_test))]
+fn is_end(here: &[u8]) -> bool
+    ensures { result ≡ is_end here.now }
 {
-    let left = text.len() - at;
-    if left == 0 {
-        return true;
-    }
-    if left == 1 {
-        return text[at] == 10;
-    }
-    (text[at] == 10) | ((text[at] == 13) & (text[at + 1] == 10))
+    here.is_empty() || here.starts_with(b"\n") || here.starts_with(b"\r\n")
 }
 
-// The record on the line that begins at `at`: whether it has the colon and the pairs that its length asks, and what its bytes add up to.
-fn record_at(text: &[u8], at: usize) -> Found
-    requires { at < length text.now }
-    ensures whole_value { result.whole ≡ is_whole (line_at text.now at) }
-    ensures total_value { result.whole ≡ true → result.total ≡ sum_of (line_at text.now at) (asked (line_at text.now at)) }
+// What the bytes of the record on that line add up to; None unless it has the colon and the pairs that its length asks.
+fn record_at(rest: &[u8]) -> Option<u32>
+    ensures { result ≡
+        cond (is_whole (first (lines_in rest.now)))
+        (Some (sum_of (first (lines_in rest.now)) (asked (first (lines_in rest.now)))))
+        None }
 {
-    let left = text.len() - at;
-    if left < 11 {
-        return Found {
-            whole: false,
-            total: 0,
-        };
+    if rest.len() < 11 || rest[0] != b':' || !is_pair(rest, 0) {
+        return None;
     }
-    if !is_pair(text, at, 0) {
-        return Found {
-            whole: false,
-            total: 0,
-        };
+    let end = 2 * byte_at(rest, 0) + 11;
+    if rest.len() < end || !is_end(&rest[end..]) {
+        return None;
     }
-    let length = byte_at(text, at, 0);
-    if left < 2 * length + 11 {
-        return Found {
-            whole: false,
-            total: 0,
-        };
-    }
-    let found = tally(text, at, length + 5);
-    Found {
-        whole: (text[at] == 58) & found.whole & is_end(text, at + (2 * length + 11)),
-        total: found.total,
+    tally(rest, end / 2)
+}
+
+// Whether a record of that type may not have that length: the end record has no data, and type 04 two bytes.
+fn has_wrong_length(kind: usize, length: usize) -> bool
+    ensures { result ≡ ((eqb kind 1 && not (eqb length 0)) || (eqb kind 4 && not (eqb length 2))) }
+{
+    match kind {
+        1 => length != 0,
+        4 => length != 2,
+        _ => false,
     }
 }
 
-// Why the line that begins at `at` is refused, or that it is not.
-fn fault_of(text: &[u8], at: usize, upper: usize, size: usize) -> Refusal
-    requires { (at < length text.now) × (upper < 65536) }
-    ensures { number_of result ≡ fault_of size upper (line_at text.now at) }
+// Whether a type is one of the three that are read.
+fn is_known(kind: usize) -> bool
+    ensures { result ≡ (eqb kind 0 || eqb kind 1 || eqb kind 4) }
 {
-    let found = record_at(text, at);
-    if !found.whole {
-        return Refusal::HexRecord;
-    }
-    let length = byte_at(text, at, 0);
-    let kind = byte_at(text, at, 3);
-    if ((kind == 1) & (length != 0)) | ((kind == 4) & (length != 2)) {
-        return Refusal::HexRecord;
-    }
-    if found.total % 256 != 0 {
-        return Refusal::HexChecksum;
-    }
-    if !((kind == 0) | (kind == 1) | (kind == 4)) {
-        return Refusal::HexType;
-    }
-    let address = byte_at(text, at, 1) * 256 + byte_at(text, at, 2);
-    let past = (65536 < address + length) | (size < upper * 65536 + address + length);
-    if (kind == 0) & (length != 0) & past {
-        return Refusal::HexOutside;
-    }
-    Refusal::Accepted
+    matches!(kind, 0 | 1 | 4)
 }
 
-// Where the line behind a whole one begins.
-fn next_line(text: &[u8], at: usize) -> usize
-    requires { is_whole (line_at text.now at) ≡ true }
-    ensures { result ≡ at + place_of 1 (drop at text.now) }
+// Whether a record has data past its 64 KiB, or outside an array of that size.
+fn is_outside(kind: usize, upper: usize, address: usize, length: usize, size: usize) -> bool
+    requires { (upper < 65536) × (address < 4294967296) × (length < 4294967296) }
+    ensures { result ≡
+        (eqb kind 0 && not (eqb length 0)
+        && (ltb 65536 (address + length) || ltb size (upper * 65536 + address + length))) }
 {
-    let end = at + (2 * byte_at(text, at, 0) + 11);
-    if end == text.len() {
+    kind == 0
+        && length != 0
+        && (65536 < address + length || size < upper * 65536 + address + length)
+}
+
+// Why that line is refused, if it is.
+#[tactic(auto, using(crate::proofs::Whole::whole_some))]
+fn fault_of(rest: &[u8], upper: usize, size: usize) -> Result<(), Refusal>
+    requires { upper < 65536 }
+    ensures { number_in result ≡ fault_of size upper (first (lines_in rest.now)) }
+{
+    let total = record_at(rest).ok_or(Refusal::HexRecord)?;
+    let length = byte_at(rest, 0);
+    let kind = byte_at(rest, 3);
+    if has_wrong_length(kind, length) {
+        return Err(Refusal::HexRecord);
+    }
+    if total % 256 != 0 {
+        return Err(Refusal::HexChecksum);
+    }
+    if !is_known(kind) {
+        return Err(Refusal::HexType);
+    }
+    let address = byte_at(rest, 1) * 256 + byte_at(rest, 2);
+    if is_outside(kind, upper, address, length, size) {
+        return Err(Refusal::HexOutside);
+    }
+    Ok(())
+}
+
+// How far on the line behind a whole one begins.
+#[tactic(auto, using(crate::proofs::Whole::whole_some))]
+fn next_line(rest: &[u8]) -> usize
+    requires { is_whole (first (lines_in rest.now)) ≡ true }
+    ensures { result ≡ place_of 1 rest.now }
+{
+    let end = 2 * byte_at(rest, 0) + 11;
+    if end == rest.len() {
         return end;
     }
-    if text[end] == 10 { end + 1 } else { end + 2 }
+    if rest[end] == b'\n' { end + 1 } else { end + 2 }
 }
 
 // The upper part of the addresses behind a whole line.
-fn upper_behind(text: &[u8], at: usize, upper: usize) -> usize
-    requires { (malformed (line_at text.now at) ≡ false) × (upper < 65536) }
-    ensures value { result ≡ upper_behind upper (line_at text.now at) }
+#[tactic(auto, using(crate::proofs::Whole::whole_some, crate::proofs::Faults::sound_whole))]
+fn upper_behind(rest: &[u8], upper: usize) -> usize
+    requires { (malformed (first (lines_in rest.now)) ≡ false) × (upper < 65536) }
+    ensures value { result ≡ upper_behind upper (first (lines_in rest.now)) }
     ensures upper_bound { result < 65536 }
 {
-    if byte_at(text, at, 3) == 4 {
-        byte_at(text, at, 4) * 256 + byte_at(text, at, 5)
+    if byte_at(rest, 3) == 4 {
+        byte_at(rest, 4) * 256 + byte_at(rest, 5)
     } else {
         upper
     }
 }
 
 // What is said of a text whose end record ends at `at`.
-fn end_at(text: &[u8], at: usize) -> Reading
+fn end_at(text: &[u8], at: usize) -> Result<(), Fault>
     requires { at ≤ length text.now }
     ensures { told result ≡ cond (ltb at (length text.now)) (reading 16 at) (reading 0 0) }
 {
     if at < text.len() {
-        return Reading {
+        return Err(Fault {
             refusal: Refusal::HexEnd,
             place: at,
-        };
+        });
     }
-    Reading {
-        refusal: Refusal::Accepted,
-        place: 0,
-    }
+    Ok(())
 }
 
 // The first walk: the first faulty record decides.
-fn judge(text: &[u8], size: usize) -> Reading
+fn judge(text: &[u8], size: usize) -> Result<(), Fault>
     ensures { told result ≡ reading (judged_in text.now size).refusal (place_of (judged_in text.now size).line text.now) }
 {
     let mut at = 0;
     let mut upper = 0;
+    // a line's own length says where the next one begins, so no range counts it
     while at < text.len() {
-        let fault = fault_of(text, at, upper, size);
-        if fault.number() != 0 {
-            return Reading {
-                refusal: fault,
-                place: at,
-            };
+        let rest = &text[at..];
+        if let Err(refusal) = fault_of(rest, upper, size) {
+            return Err(Fault { refusal, place: at });
         }
-        let next = next_line(text, at);
-        if byte_at(text, at, 3) == 1 {
+        let next = at + next_line(rest);
+        if byte_at(rest, 3) == 1 {
             return end_at(text, next);
         }
-        upper = upper_behind(text, at, upper);
+        upper = upper_behind(rest, upper);
         at = next;
     }
-    Reading {
+    Err(Fault {
         refusal: Refusal::HexEnd,
         place: at,
-    }
+    })
 }
 
-// The data of the record on the line that begins at `at` goes to the array from `start` on.
-fn lay(array: &mut [u8], start: usize, text: &[u8], at: usize)
-    requires { (is_whole (line_at text.now at) ≡ true) × (start < 8589934592) ×
-        (0 < length_of (line_at text.now at) → start + length_of (line_at text.now at) ≤ length array.old) }
-    ensures { array.new ≡ each (laid start (line_at text.now at)) array.old }
+// The data of the record on that line goes to the array from `start` on.
+#[tactic(auto, using(crate::proofs::Whole::whole_some))]
+fn lay(array: &mut [u8], start: usize, rest: &[u8])
+    requires { (is_whole (first (lines_in rest.now)) ≡ true) × (start < 8589934592) ×
+        (0 < length_of (first (lines_in rest.now)) → start + length_of (first (lines_in rest.now)) ≤ length array.old) }
+    ensures { array.new ≡ each (laid start (first (lines_in rest.now))) array.old }
 {
-    let end = start + byte_at(text, at, 0);
-    let mut i = start;
-    while i < end {
-        array[i] = byte_at(text, at, i - start + 4) as u8;
-        i += 1;
+    let end = start + byte_at(rest, 0);
+    // by index: a record without data may begin behind the array's end, where no slice begins
+    for i in start..end {
+        array[i] = byte_at(rest, i - start + 4) as u8;
     }
 }
 
 // A record with data is laid into the array; the others leave it alone.
-fn obey(array: &mut [u8], text: &[u8], at: usize, upper: usize)
-    requires { (fault_of (length array.old) upper (line_at text.now at) ≡ 0) × (upper < 65536) }
-    ensures { array.new ≡ obeyed upper (line_at text.now at) array.old }
+#[tactic(auto, using(crate::proofs::Whole::whole_some, crate::proofs::Faults::good_whole))]
+fn obey(array: &mut [u8], rest: &[u8], upper: usize)
+    requires { (fault_of (length array.old) upper (first (lines_in rest.now)) ≡ 0) × (upper < 65536) }
+    ensures { array.new ≡ obeyed upper (first (lines_in rest.now)) array.old }
 {
-    if byte_at(text, at, 3) == 0 {
-        let start = upper * 65536 + (byte_at(text, at, 1) * 256 + byte_at(text, at, 2));
-        lay(array, start, text, at);
+    if byte_at(rest, 3) == 0 {
+        let start = upper * 65536 + (byte_at(rest, 1) * 256 + byte_at(rest, 2));
+        lay(array, start, rest);
     }
 }
 
@@ -270,32 +272,30 @@ fn carry_out(array: &mut [u8], text: &[u8])
 {
     let mut at = 0;
     let mut upper = 0;
+    // a line's own length says where the next one begins, so no range counts it
     while at < text.len() {
-        if byte_at(text, at, 3) == 1 {
+        let rest = &text[at..];
+        if byte_at(rest, 3) == 1 {
             return;
         }
-        obey(array, text, at, upper);
-        let next = next_line(text, at);
-        upper = upper_behind(text, at, upper);
-        at = next;
+        obey(array, rest, upper);
+        at += next_line(rest);
+        upper = upper_behind(rest, upper);
     }
 }
 
 // Reads the text into the array: later records win, bytes not named stay; refused, all of them do.
-pub fn read(text: &[u8], array: &mut [u8]) -> Reading
+pub fn read(text: &[u8], array: &mut [u8]) -> Result<(), Fault>
     ensures result_value { told result ≡ reading_of text.now (length array.old) }
     ensures array_after { array.new ≡ array_of text.now array.old }
 {
     if !is_array(array.len()) {
-        return Reading {
+        return Err(Fault {
             refusal: Refusal::HexLength,
             place: 0,
-        };
+        });
     }
-    let found = judge(text, array.len());
-    let refusal = found.refusal;
-    if refusal.number() == 0 {
-        carry_out(array, text);
-    }
-    found
+    judge(text, array.len())?;
+    carry_out(array, text);
+    Ok(())
 }

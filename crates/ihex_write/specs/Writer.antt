@@ -1,11 +1,11 @@
 -- The writer: for each 64 KiB of the array a record of type 04, then data records of 16 bytes, the end record behind them, one LF after
 -- each. Assumes nothing.
 use Rattle.std.specs.Prelude.{ℕ, zero, suc, ◌+◌, ◌*◌, ◌/◌, ◌%◌, cond, not, List, [], ◌∷◌, ◌++◌, ltb, eqb, length, take}
-use Rattle.std.specs.Prelude.{drop}
+use Rattle.std.specs.Prelude.{drop, Result, Ok, Err}
 use Rattle.std.proofs.lemmas.List.Edits.{sets}
 use Rattle.memories.specs.Sizes.{is_array}
+use Rattle.refusals.specs.declared.Refusal.{Refusal}
 use Rattle.refusals.specs.Refusals.{number_of}
-use Rattle.ihex_write.specs.declared.Written.{Written}
 use Rattle.ihex_layout.specs.Layout.{line_feed, record_line}
 
 -- type 04: the upper part of the addresses that follow
@@ -54,8 +54,9 @@ abbrev pub written : ℕ → ℕ → Told
 written refusal characters = record { refusal = refusal; characters = characters }
 
 -- an answer of the code
-abbrev pub told : Written → Told
-told w = written (number_of w.refusal) w.characters
+abbrev pub told : Result ℕ Refusal → Told
+told (Ok characters) = written 0 characters
+told (Err refusal) = written (number_of refusal) 0
 
 -- the answer: why nothing is written, or how many characters are
 unfoldable pub written_of : List ℕ → ℕ → Told

@@ -6,6 +6,8 @@ use mathlib.Core.Path.{◌≡◌, refl, ap, ◌∙◌}
 use native.Mathlib.Omega.{arith}
 use borrow.Author.Tests.{ltb-true, ltb-false, leb-true, eqb-true, le-leb, lt-leb}
 use lib.Dec.{leb, ltb, eqb}
+use Rattle.std.specs.Bool.{then_some}
+use Rattle.std.specs.Option.{option_map_or}
 use Rattle.opcodes.specs.declared.Row.{Row}
 use Rattle.opcodes.specs.declared.Command.{Command}
 use Rattle.opcodes.specs.declared.Command.TheVariants.{Unlisted, Reads, Orders, Works}
@@ -21,14 +23,14 @@ use Rattle.settings.specs.declared.Settings.{Settings}
 use Rattle.judge.specs.declared.Facts.{Facts}
 use Rattle.judge.specs.declared.Judged.{Judged}
 use Rattle.judge.specs.declared.Cause.{Cause}
-use Rattle.judge.specs.declared.Cause.TheVariants.{None, LatchClear, ResetUnconfirmed, OffBoundary, Incomplete}
+use Rattle.judge.specs.declared.Cause.TheVariants.{LatchClear, ResetUnconfirmed, OffBoundary, Incomplete}
 use Rattle.judge.specs.declared.Cause.TheVariants.{Protected, Locked, AlreadyProgrammed}
 use Rattle.judge.specs.declared.Outcome.{Outcome}
 use Rattle.judge.specs.Causes.{on_boundary}
 use Rattle.judge.specs.Judging.{quiet, nothing, aborted, read, judged}
 use Rattle.judge.specs.Steps as steps
 use Rattle.judge.specs.Steps.{stepped}
-use Rattle.judge.specs.Bare.{uncaused, by_opcode, bare}
+use Rattle.judge.specs.Bare.{any_cause, uncaused, by_opcode, bare}
 use Rattle.judge.proofs.Steps.{by_steps}
 
 module _ (d : Device) (s : Settings) (f : Facts) (fits : (f.bits + 7) / 8 ≡ f.bytes) where
@@ -37,10 +39,10 @@ module _ (d : Device) (s : Settings) (f : Facts) (fits : (f.bits + 7) / 8 ≡ f.
 
   -- nothing and aborted, the cause struck out
   abbrev still : Judged
-  still = quiet (Outcome.Nothing None) d
+  still = quiet (Outcome.Nothing any_cause) d
 
   abbrev spent : Judged
-  spent = quiet (Outcome.Aborted None) (dropped d)
+  spent = quiet (Outcome.Aborted any_cause) (dropped d)
 
   -- an opcode's steps; x is the command carried out, which has no cause
   either : (b : Bool) (x : Judged) → x ≡ cond b x x
@@ -68,7 +70,8 @@ module _ (d : Device) (s : Settings) (f : Facts) (fits : (f.bits + 7) / 8 ≡ f.
   works : (x : Judged) → uncaused x ≡ x → (cause : Cause) (wel even short shut : Bool)
       → uncaused
       (cond (not wel) (nothing LatchClear d)
-      (cond (not even) (aborted OffBoundary d) (cond short (aborted Incomplete d) (cond shut (aborted cause d) x))))
+      (cond (not even) (aborted OffBoundary d)
+      (cond short (aborted Incomplete d) (option_map_or (λ c. aborted c d) (then_some shut cause) x))))
       ≡ cond (not wel) still (cond (not short && (even || false)) (cond shut spent x) spent)
   works x u cause false even short shut = refl
   works x u cause true true true shut = refl
@@ -142,7 +145,7 @@ module _ (d : Device) (s : Settings) (f : Facts) (fits : (f.bits + 7) / 8 ≡ f.
         by Work.Otp e n = rw (e, n.0, n.1, enough) (works _ refl AlreadyProgrammed d.wel even short d.used)
         by Work.WriteStatus e n =
             rw (e, n.0, n.1, enough) (works _ refl Locked d.wel even short (d.bpl && not f.wp))
-        by Work.WriteStatusTwo e n = rw (e, n.0, n.1, enough) (works _ refl None d.wel even short false)
+        by Work.WriteStatusTwo e n = rw (e, n.0, n.1, enough) (works _ refl Locked d.wel even short false)
 
     of_command : (command : Command) → row.command ≡ command → Same
     unfolding by_opcode

@@ -3,6 +3,7 @@
 use mathlib.Core.Bool.{Bool, true, false, true≢false, cond, not, ◌&&◌, and-true, and-false}
 use mathlib.Core.Path.{◌≡◌, refl, sym, ap, ◌∙◌}
 use lib.Dec.{ltb}
+use Rattle.std.specs.Prelude.{Option, Some, None, is_none}
 use Rattle.opcodes.specs.declared.Row.{Row}
 use Rattle.opcodes.specs.declared.Command.{Command}
 use Rattle.opcodes.specs.declared.Command.TheVariants.{Unlisted, Reads, Orders, Works}
@@ -20,10 +21,10 @@ use Rattle.settings.specs.declared.Settings.{Settings}
 use Rattle.judge.specs.declared.Facts.{Facts}
 use Rattle.judge.specs.declared.Judged.{Judged}
 use Rattle.judge.specs.declared.Cause.{Cause}
-use Rattle.judge.specs.declared.Cause.TheVariants.{None, TooFewBits, Asleep, Busy, LatchClear, OffBoundary}
+use Rattle.judge.specs.declared.Cause.TheVariants.{TooFewBits, Asleep, Busy, LatchClear, OffBoundary}
 use Rattle.judge.specs.declared.Cause.TheVariants.{Incomplete, Protected}
 use Rattle.judge.specs.Begins.{changes_array, ready}
-use Rattle.judge.specs.Causes.{is_none, on_boundary, cause_of, drops}
+use Rattle.judge.specs.Causes.{on_boundary, cause_of, drops}
 use Rattle.judge.specs.Judging.{nothing, control, aborted, ordered, carried, obeyed, ended, wakes, judged}
 use Rattle.judge.proofs.Causes.{up}
 
@@ -56,20 +57,14 @@ module _ (d : Device) (s : Settings) (f : Facts) where
   obeyed_when (Works work) = work_when work d s f
 
   -- by the cause
-  ended_when : (cause : Cause) → changes (ended cause row d s f) ≡ (is_none cause && means_array row.command)
+  ended_when : (first : Option Cause) → changes (ended first row d s f) ≡ (is_none first && means_array row.command)
   unfolding ended
-  ended_when cause = by (is_none cause)
+  ended_when None = obeyed_when row.command
+  ended_when (Some cause) = by (drops cause row)
     where
-      or_quiet : (b : Bool) → changes (cond b (aborted cause d) (nothing cause d)) ≡ false
-      or_quiet true = refl
-      or_quiet false = refl
-
-      by : (b : Bool)
-          → changes
-          (cond b (obeyed row.command row d s f) (cond (drops cause row) (aborted cause d) (nothing cause d)))
-          ≡ (b && means_array row.command)
-      by true = obeyed_when row.command
-      by false = or_quiet (drops cause row)
+      by : (b : Bool) → changes (cond b (aborted cause d) (nothing cause d)) ≡ false
+      by true = refl
+      by false = refl
 
   -- a part that sleeps has a cause
   sleeps : awake d.mode ≡ false → is_none (cause_of row d f) ≡ false
@@ -105,13 +100,13 @@ module _ (d : Device) (s : Settings) (f : Facts) where
   -- what may keep a program or an erase of the array from being carried out, in the list's order
   listed : (few up busy wel even short shut : Bool)
       → is_none
-      (cond few TooFewBits
-      (cond (not up) Asleep
-      (cond (busy && true) Busy
-      (cond (not wel) LatchClear
-      (cond (not even) OffBoundary
-      (cond short Incomplete
-      (cond shut Protected None)))))))
+      (cond few (Some TooFewBits)
+      (cond (not up) (Some Asleep)
+      (cond (busy && true) (Some Busy)
+      (cond (not wel) (Some LatchClear)
+      (cond (not even) (Some OffBoundary)
+      (cond short (Some Incomplete)
+      (cond shut (Some Protected) None)))))))
       ≡ (not few && (up && (not busy && (wel && (even && (not short && not shut))))))
   listed true up busy wel even short shut = refl
   listed false false busy wel even short shut = refl
@@ -133,13 +128,13 @@ module _ (d : Device) (s : Settings) (f : Facts) where
   work_ready work e w = by work w e (work_needs f.code work e)
     where
       all : is_none
-          (cond (ltb f.bits 8) TooFewBits
-          (cond (not (awake d.mode)) Asleep
-          (cond (f.busy && true) Busy
-          (cond (not d.wel) LatchClear
-          (cond (not (on_boundary f)) OffBoundary
-          (cond (ltb f.bytes row.bytes) Incomplete
-          (cond d.bp0 Protected None)))))))
+          (cond (ltb f.bits 8) (Some TooFewBits)
+          (cond (not (awake d.mode)) (Some Asleep)
+          (cond (f.busy && true) (Some Busy)
+          (cond (not d.wel) (Some LatchClear)
+          (cond (not (on_boundary f)) (Some OffBoundary)
+          (cond (ltb f.bytes row.bytes) (Some Incomplete)
+          (cond d.bp0 (Some Protected) None)))))))
           ≡ as_ready
       all =
           listed (ltb f.bits 8) (awake d.mode) f.busy d.wel (on_boundary f) (ltb f.bytes row.bytes)

@@ -7,6 +7,8 @@ use native.Mathlib.Decide.{ℕ_discrete}
 use native.Mathlib.Omega.{arith}
 use borrow.Author.Tests.{ltb-false, eq-eqb, ne_eqb}
 use lib.Dec.{ltb, eqb}
+use Rattle.std.specs.Prelude.{Option, Some, None, is_none}
+use Rattle.std.proofs.lemmas.Bool.{cond_both}
 use Rattle.opcodes.specs.declared.Command.{Command}
 use Rattle.opcodes.specs.declared.Command.TheVariants.{Unlisted, Reads, Orders, Works}
 use Rattle.opcodes.specs.declared.Order.{Order}
@@ -31,7 +33,7 @@ use Rattle.judge.specs.declared.Outcome.{Outcome}
 use Rattle.judge.specs.declared.Action.{Action}
 use Rattle.judge.specs.Begins.{changes_array, asks_for, lasts}
 use Rattle.device.specs.Device.{awake, deep, ultra_deep, is_busy, unsound, latched, dropped, moved, woken, reset}
-use Rattle.judge.specs.Causes.{is_none, cause_of, drops}
+use Rattle.judge.specs.Causes.{cause_of, drops}
 use Rattle.judge.specs.Judging.{quiet, nothing, control, aborted, driven, read, erase_kind, program_kind, ordered}
 use Rattle.judge.specs.Judging.{carried, obeyed, ended, wakes, judged}
 use Rattle.judge.proofs.Causes.{unhindered, up}
@@ -45,17 +47,13 @@ pub record Heard (d : Device) (f : Facts) : Type 0 where
 -- An answer is nothing or an abort for the first cause that holds, a waking from either sleep, or what the command of a
 -- heard frame gives.
 module _ (d : Device) (s : Settings) (f : Facts) (P : Judged → Type 0)
-    (still : is_none (cause_of (row_of f.code) d f) ≡ false → P (nothing (cause_of (row_of f.code) d f) d))
-    (aborting : is_none (cause_of (row_of f.code) d f) ≡ false → P (aborted (cause_of (row_of f.code) d f) d))
+    (still : (cause : Cause) → cause_of (row_of f.code) d f ≡ Some cause → P (nothing cause d))
+    (aborting : (cause : Cause) → cause_of (row_of f.code) d f ≡ Some cause → P (aborted cause d))
     (waking : ultra_deep d.mode ≡ true → P (control (woken d)))
     (rousing : deep d.mode ≡ true → P (ordered Resume d))
     (reading : (source : Source) → (row_of f.code).command ≡ Reads source → P (read (row_of f.code) source d f))
     (ordering : (order : Order) → (row_of f.code).command ≡ Orders order → Heard d f → P (ordered order d))
     (carrying : (work : Work) → (row_of f.code).command ≡ Works work → Heard d f → P (carried work d s f)) where
-  choice : (b : Bool) (x y : Judged) → (b ≡ true → P x) → (b ≡ false → P y) → P (cond b x y)
-  choice true x y p q = p refl
-  choice false x y p q = q refl
-
   heard : is_none (cause_of (row_of f.code) d f) ≡ true → Heard d f
   heard n = record { up = up (row_of f.code) d f n; answers = (unhindered (row_of f.code) d f n).1.1.0 }
 
@@ -68,21 +66,22 @@ module _ (d : Device) (s : Settings) (f : Facts) (P : Judged → Type 0)
 
   of_cause : P (ended (cause_of (row_of f.code) d f) (row_of f.code) d s f)
   unfolding ended
-  of_cause =
-      let r = row_of f.code in
-      let cause = cause_of r d f in
-      choice (is_none cause) (obeyed r.command r d s f) (cond (drops cause r) (aborted cause d) (nothing cause d))
-      (of_command r.command refl)
-      (λ n. choice (drops cause r) (aborted cause d) (nothing cause d) (λ t. aborting n) (λ t. still n))
+  of_cause = by (cause_of (row_of f.code) d f) refl
+    where
+      by : (first : Option Cause) → cause_of (row_of f.code) d f ≡ first → P (ended first (row_of f.code) d s f)
+      by None e = of_command (row_of f.code).command refl (ap is_none e)
+      by (Some cause) e =
+          cond_both (drops cause (row_of f.code)) (aborted cause d) (nothing cause d) P (λ t. aborting cause e)
+          (λ t. still cause e)
 
   pub each_answer : P (judged d s f)
   unfolding judged
   each_answer =
       let r = row_of f.code in
       let listed = ended (cause_of r d f) r d s f in
-      choice (ultra_deep d.mode) (control (woken d)) (cond (wakes r d f) (ordered Resume d) listed) waking
+      cond_both (ultra_deep d.mode) (control (woken d)) (cond (wakes r d f) (ordered Resume d) listed) P waking
       (λ u.
-      choice (wakes r d f) (ordered Resume d) listed (λ w. rousing ((and-eq-true_iff (deep d.mode) _).0 w).0)
+      cond_both (wakes r d f) (ordered Resume d) listed P (λ w. rousing ((and-eq-true_iff (deep d.mode) _).0 w).0)
       (λ w. of_cause))
 
 -- The same for what does not care how a quiet answer came about: an answer is quiet, a read, or a command carried out.
@@ -98,12 +97,10 @@ module _ (d : Device) (s : Settings) (f : Facts) (P : Judged → Type 0)
   of_order Resume = quietly Outcome.Control (moved d Awake)
   of_order Reset = quietly Outcome.Control (reset d)
 
-  abbrev cause : Cause
-  cause = cause_of (row_of f.code) d f
-
   pub each_kind : P (judged d s f)
   each_kind =
-      each_answer d s f P (λ n. quietly (Outcome.Nothing cause) d) (λ n. quietly (Outcome.Aborted cause) (dropped d))
+      each_answer d s f P (λ cause n. quietly (Outcome.Nothing cause) d)
+      (λ cause n. quietly (Outcome.Aborted cause) (dropped d))
       (λ u. quietly Outcome.Control (woken d)) (λ e. quietly Outcome.Control (moved d Awake)) reading
       (λ order e h. of_order order) (λ work e h. carrying work e)
 
@@ -157,7 +154,7 @@ begun_by_work : (d : Device) (s : Settings) (f : Facts) (P : Judged → Type 0)
     → P (carried work d s f))
     → is_begun (judged d s f).outcome ≡ true → P (judged d s f)
 begun_by_work d s f P of_work =
-    each_answer d s f (IfBegun P) (λ n. none) (λ n. none) (λ m. none) (λ m. none) (λ source e. none)
+    each_answer d s f (IfBegun P) (λ cause n. none) (λ cause n. none) (λ m. none) (λ m. none) (λ source e. none)
     (λ order e h. of_order order) (λ work e h. of_work work e)
   where
     none : {A : Type 0} → false ≡ true → A
@@ -222,7 +219,7 @@ found_idle d f b h = sym (and-true f.busy) ∙ rw b at h.answers
 pub stays_sound : (d : Device) (s : Settings) (f : Facts) → unsound d ≡ false → any_unfair s.ticks ≡ false → (f.busy ≡ false → is_busy d ≡ false)
     → unsound (judged d s f).device ≡ false
 stays_sound d s f u fair still =
-    each_answer d s f (λ (j : Judged). unsound j.device ≡ false) (λ n. u) (λ n. u) (λ m. awoken) (λ m. awoken)
+    each_answer d s f (λ (j : Judged). unsound j.device ≡ false) (λ cause n. u) (λ cause n. u) (λ m. awoken) (λ m. awoken)
     (λ source e. u) of_order (λ work e h. of_work work h.up)
   where
     awoken : unsound (moved d Awake) ≡ false

@@ -2,6 +2,9 @@
 use mathlib.Core.Bool.{Bool, true, false, cond, not, ◌&&◌}
 use mathlib.Core.Path.{◌≡◌, refl, ap}
 use lib.Dec.{ltb}
+use Rattle.std.specs.Prelude.{Some, None}
+use Rattle.std.specs.Bool.{then_some}
+use Rattle.std.specs.Option.{option_map_or}
 use Rattle.opcodes.specs.declared.Row.{Row}
 use Rattle.opcodes.specs.declared.Command.{Command}
 use Rattle.opcodes.specs.declared.Command.TheVariants.{Unlisted, Reads, Orders, Works}
@@ -21,44 +24,47 @@ use Rattle.settings.specs.declared.Settings.{Settings}
 use Rattle.judge.specs.declared.Facts.{Facts}
 use Rattle.judge.specs.declared.Judged.{Judged}
 use Rattle.judge.specs.declared.Cause.{Cause}
-use Rattle.judge.specs.declared.Cause.TheVariants.{None, TooFewBits, Asleep, Busy, LatchClear, ResetUnconfirmed}
-use Rattle.judge.specs.declared.Cause.TheVariants.{OffBoundary, Incomplete}
-use Rattle.judge.specs.Causes.{is_none, on_boundary, confirmed, cause_of, drops}
-use Rattle.judge.specs.Judging.{nothing, aborted, control, ordered, ended, wakes, judged}
-use Rattle.judge.specs.Steps.{bar, barred, by_opcode, stepped}
+use Rattle.judge.specs.declared.Cause.TheVariants.{TooFewBits, Asleep, Busy, LatchClear, ResetUnconfirmed}
+use Rattle.judge.specs.declared.Cause.TheVariants.{OffBoundary, Incomplete, Locked}
+use Rattle.judge.specs.Causes.{on_boundary, confirmed, cause_of, drops}
+use Rattle.judge.specs.Judging.{nothing, aborted, control, ordered, obeyed, ended, wakes, judged}
+use Rattle.judge.specs.Steps.{by_opcode, stepped}
 
 module _ (d : Device) (s : Settings) (f : Facts) where
   abbrev row : Row
   row = row_of f.code
 
-  -- what is answered by a cause; x is the command carried out
-  abbrev by_cause : Row → Judged → Cause → Judged
-  by_cause r x cause = cond (is_none cause) x (cond (drops cause r) (aborted cause d) (nothing cause d))
-
   -- a control command that needs a boundary
-  orders : (r : Row) (x : Judged) → r.latch ≡ false → (even : Bool)
-      → by_cause r x (cond (not even) OffBoundary None) ≡ cond (not even) (nothing OffBoundary d) x
-  orders r x l true = refl
-  orders r x l false = rw l
+  orders : (r : Row) → r.latch ≡ false → (even : Bool)
+      → ended (cond (not even) (Some OffBoundary) None) r d s f
+      ≡ cond (not even) (nothing OffBoundary d) (obeyed r.command r d s f)
+  unfolding ended
+  orders r l true = refl
+  orders r l false = rw l
 
-  resets : (r : Row) (x : Judged) → r.latch ≡ false → (sure even : Bool)
-      → by_cause r x (cond (not sure) ResetUnconfirmed (cond (not even) OffBoundary None))
-      ≡ cond (not sure) (nothing ResetUnconfirmed d) (cond (not even) (nothing OffBoundary d) x)
-  resets r x l true even = orders r x l even
-  resets r x l false even = refl
+  resets : (r : Row) → r.latch ≡ false → (sure even : Bool)
+      → ended (cond (not sure) (Some ResetUnconfirmed) (cond (not even) (Some OffBoundary) None)) r d s f
+      ≡ cond (not sure) (nothing ResetUnconfirmed d)
+      (cond (not even) (nothing OffBoundary d) (obeyed r.command r d s f))
+  unfolding ended
+  resets r l true even = orders r l even
+  resets r l false even = refl
 
   -- a command that needs WEL, with what may bar it
-  works : (r : Row) (x : Judged) → r.latch ≡ true → (cause : Cause) → is_none cause ≡ false → drops cause r ≡ true
-      → (wel even short shut : Bool)
-      → by_cause r x
-      (cond (not wel) LatchClear (cond (not even) OffBoundary (cond short Incomplete (cond shut cause None))))
+  works : (r : Row) → r.latch ≡ true → (cause : Cause) → drops cause r ≡ true → (wel even short shut : Bool)
+      → ended
+      (cond (not wel) (Some LatchClear)
+      (cond (not even) (Some OffBoundary) (cond short (Some Incomplete) (cond shut (Some cause) None)))) r d s f
       ≡ cond (not wel) (nothing LatchClear d)
-      (cond (not even) (aborted OffBoundary d) (cond short (aborted Incomplete d) (cond shut (aborted cause d) x)))
-  works r x l cause some dropping false even short shut = refl
-  works r x l cause some dropping true false short shut = rw l
-  works r x l cause some dropping true true true shut = refl
-  works r x l cause some dropping true true false true = rw (some, dropping)
-  works r x l cause some dropping true true false false = refl
+      (cond (not even) (aborted OffBoundary d)
+      (cond short (aborted Incomplete d)
+      (option_map_or (λ c. aborted c d) (then_some shut cause) (obeyed r.command r d s f))))
+  unfolding ended
+  works r l cause dropping false even short shut = refl
+  works r l cause dropping true false short shut = rw l
+  works r l cause dropping true true true shut = refl
+  works r l cause dropping true true false true = rw dropping
+  works r l cause dropping true true false false = refl
 
   abbrev listed : Judged
   listed = ended (cause_of row d f) row d s f
@@ -85,17 +91,17 @@ module _ (d : Device) (s : Settings) (f : Facts) where
             → row.asleep ≡ resuming order
             → listed ≡ by_opcode (Orders order) row d s f
         by Enable e n a =
-            rw (ap awake m, few, heard, e, n.0, n.1, a) (orders _ _ refl (on_boundary f))
+            rw (ap awake m, few, heard, e, n.0, n.1, a) (orders _ refl (on_boundary f))
         by Disable e n a =
-            rw (ap awake m, few, heard, e, n.0, n.1, a) (orders _ _ refl (on_boundary f))
+            rw (ap awake m, few, heard, e, n.0, n.1, a) (orders _ refl (on_boundary f))
         by DeepPowerDown e n a =
-            rw (ap awake m, few, heard, e, n.0, n.1, a) (orders _ _ refl (on_boundary f))
+            rw (ap awake m, few, heard, e, n.0, n.1, a) (orders _ refl (on_boundary f))
         by UltraDeepPowerDown e n a =
-            rw (ap awake m, few, heard, e, n.0, n.1, a) (orders _ _ refl (on_boundary f))
+            rw (ap awake m, few, heard, e, n.0, n.1, a) (orders _ refl (on_boundary f))
         by Resume e n a = rw (ap awake m, few, heard, e, n.0, n.1, a)
         by Reset e n a =
             rw (ap awake m, few, heard, e, n.0, n.1, a)
-            (resets _ _ refl (confirmed d f) (on_boundary f))
+            (resets _ refl (confirmed d f) (on_boundary f))
 
     of_work : (work : Work) → row.command ≡ Works work → listed ≡ by_opcode (Works work) row d s f
     unfolding ended cause_of
@@ -106,24 +112,19 @@ module _ (d : Device) (s : Settings) (f : Facts) where
             → listed ≡ by_opcode (Works work) row d s f
         by Work.Program e n =
             rw (ap awake m, few, heard, e, n.0, n.1, n.3)
-            (works _ _ refl (bar Work.Program) refl refl d.wel (on_boundary f) (ltb f.bytes row.bytes)
-            (barred Work.Program d f))
+            (works _ refl _ refl _ _ _ _)
         by (Work.Erase region) e n =
             rw (ap awake m, few, heard, e, n.0, n.1, n.3)
-            (works _ _ refl (bar (Work.Erase region)) refl refl d.wel (on_boundary f) (ltb f.bytes row.bytes)
-            (barred (Work.Erase region) d f))
+            (works _ refl _ refl _ _ _ _)
         by Work.Otp e n =
             rw (ap awake m, few, heard, e, n.0, n.1, n.3)
-            (works _ _ refl (bar Work.Otp) refl refl d.wel (on_boundary f) (ltb f.bytes row.bytes)
-            (barred Work.Otp d f))
+            (works _ refl _ refl _ _ _ _)
         by Work.WriteStatus e n =
             rw (ap awake m, few, heard, e, n.0, n.1, n.3)
-            (works _ _ refl (bar Work.WriteStatus) refl refl d.wel (on_boundary f) (ltb f.bytes row.bytes)
-            (barred Work.WriteStatus d f))
+            (works _ refl _ refl _ _ _ _)
         by Work.WriteStatusTwo e n =
             rw (ap awake m, few, heard, e, n.0, n.1, n.3)
-            (works _ _ refl (bar Work.WriteStatus) refl refl d.wel (on_boundary f) (ltb f.bytes row.bytes)
-            false)
+            (works _ refl Locked refl _ _ _ false)
 
     of_command : (command : Command) → row.command ≡ command → listed ≡ by_opcode command row d s f
     of_command Unlisted e = of_unlisted e

@@ -13,18 +13,23 @@ use Rattle.device.specs.declared.Mode.TheVariants.{Awake, Deep, UltraDeep}
 use Rattle.settings.specs.declared.Settings.{Settings}
 use Rattle.judge.specs.declared.Facts.{Facts}
 use Rattle.judge.specs.declared.Judged.{Judged}
-use Rattle.judge.specs.declared.Cause.TheVariants.{None}
+use Rattle.judge.specs.declared.Cause.{Cause}
+use Rattle.judge.specs.declared.Cause.TheVariants.{TooFewBits}
 use Rattle.judge.specs.declared.Outcome.{Outcome}
 use Rattle.device.specs.Device.{deep, ultra_deep, latched, dropped, moved, woken, reset}
 use Rattle.judge.specs.Causes.{on_boundary}
 use Rattle.judge.specs.Judging.{quiet, control, read, carried}
 
+-- one cause stands where any was struck out, and so tells nothing
+abbrev pub any_cause : Cause
+any_cause = TooFewBits
+
 -- the cause struck out of an outcome, and of what was judged
 abbrev pub struck : Outcome → Outcome
-struck (Outcome.Nothing cause) = Outcome.Nothing None
+struck (Outcome.Nothing cause) = Outcome.Nothing any_cause
 struck Outcome.Read = Outcome.Read
 struck Outcome.Control = Outcome.Control
-struck (Outcome.Aborted cause) = Outcome.Aborted None
+struck (Outcome.Aborted cause) = Outcome.Aborted any_cause
 struck Outcome.Begun = Outcome.Begun
 
 abbrev pub uncaused : Judged → Judged
@@ -38,11 +43,11 @@ uncaused j =
     }
 
 abbrev nothing : Device → Judged
-nothing d = quiet (Outcome.Nothing None) d
+nothing d = quiet (Outcome.Nothing any_cause) d
 
 -- WEL dropped, no operation
 abbrev aborted : Device → Judged
-aborted d = quiet (Outcome.Aborted None) (dropped d)
+aborted d = quiet (Outcome.Aborted any_cause) (dropped d)
 
 -- the control commands, on a boundary
 abbrev ordered : Order → Device → Facts → Judged

@@ -1,6 +1,7 @@
 -- Why a frame comes to nothing or is aborted: request R-5's list, and when each cause of it holds. What a memory holds
 -- is not among its arguments. Assumes nothing.
-use Rattle.std.specs.Prelude.{ℕ, ◌%◌, Bool, true, false, cond, not, ◌&&◌, List, [], ◌∷◌, ◌++◌, ◌≡◌, leb, ltb, eqb}
+use Rattle.std.specs.Prelude.{ℕ, ◌%◌, Bool, true, false, not, ◌&&◌, List, [], ◌∷◌, ◌++◌, ◌≡◌, leb, ltb, eqb}
+use Rattle.std.specs.Prelude.{Option, Some, None, find}
 use Prim.Native.String.{String}
 use Rattle.opcodes.specs.declared.Row.{Row}
 use Rattle.opcodes.specs.Kinds.{is_unlisted, is_reset, means_array, means_status, means_once}
@@ -8,13 +9,12 @@ use Rattle.device.specs.declared.Device.{Device}
 use Rattle.device.specs.Device.{awake}
 use Rattle.judge.specs.declared.Facts.{Facts}
 use Rattle.judge.specs.declared.Cause.{Cause}
-use Rattle.judge.specs.declared.Cause.TheVariants.{None, TooFewBits, Asleep, Busy, UnknownOpcode, LatchClear}
+use Rattle.judge.specs.declared.Cause.TheVariants.{TooFewBits, Asleep, Busy, UnknownOpcode, LatchClear}
 use Rattle.judge.specs.declared.Cause.TheVariants.{ResetUnconfirmed, OffBoundary, Incomplete, Protected, Locked}
 use Rattle.judge.specs.declared.Cause.TheVariants.{AlreadyProgrammed, AlreadyAwake}
 
--- each cause by its number, which is its place in the list, and by its words; none is 0
+-- each cause by its number, which is its place in the list, and by its words
 abbrev pub cause_number : Cause → ℕ
-cause_number None = 0
 cause_number TooFewBits = 1
 cause_number Asleep = 2
 cause_number Busy = 3
@@ -29,7 +29,6 @@ cause_number AlreadyProgrammed = 11
 cause_number AlreadyAwake = 12
 
 abbrev pub cause_words : Cause → String
-cause_words None = "none"
 cause_words TooFewBits = "too few bits"
 cause_words Asleep = "asleep"
 cause_words Busy = "busy"
@@ -43,8 +42,14 @@ cause_words Locked = "locked"
 cause_words AlreadyProgrammed = "already programmed"
 cause_words AlreadyAwake = "already awake"
 
-abbrev pub is_none : Cause → Bool
-is_none cause = eqb (cause_number cause) 0
+-- where there is no cause, 0 and "none" say so
+abbrev pub number_in : Option Cause → ℕ
+number_in None = 0
+number_in (Some cause) = cause_number cause
+
+abbrev pub words_in : Option Cause → String
+words_in None = "none"
+words_in (Some cause) = cause_words cause
 
 -- on a boundary: whole bytes were clocked
 abbrev pub on_boundary : Facts → Bool
@@ -57,7 +62,6 @@ confirmed d f = d.rste && (eqb f.second 0xD0 && leb 16 f.bits)
 -- when each cause holds: by the row of the opcode, the record and the frame. What a part in deep power-down answers,
 -- ABh, is of no use to one that is awake.
 abbrev pub holds : Cause → Row → Device → Facts → Bool
-holds None r d f = false
 holds TooFewBits r d f = ltb f.bits 8
 holds Asleep r d f = not (awake d.mode)
 holds Busy r d f = f.busy && not r.busy
@@ -78,12 +82,8 @@ causes =
     Locked ∷ AlreadyProgrammed ∷ AlreadyAwake ∷ []
 
 -- where several hold, the first
-abbrev pub first_of : (Cause → Bool) → List Cause → Cause
-first_of test [] = None
-first_of test (cause ∷ rest) = cond (test cause) cause (first_of test rest)
-
-unfoldable pub cause_of : Row → Device → Facts → Cause
-cause_of r d f = first_of (λ cause. holds cause r d f) causes
+unfoldable pub cause_of : Row → Device → Facts → Option Cause
+cause_of r d f = find (λ cause. holds cause r d f) causes
 
 -- that it is the first: it is of the list and holds, and none before it does
 abbrev pub NoneOf : (Cause → Bool) → List Cause → Type 0
@@ -99,7 +99,6 @@ pub record IsFirst (test : Cause → Bool) (list : List Cause) (cause : Cause) :
 
 -- a frame with this cause is aborted and drops WEL, which its command needed and had
 abbrev pub drops : Cause → Row → Bool
-drops None r = false
 drops TooFewBits r = false
 drops Asleep r = false
 drops Busy r = false

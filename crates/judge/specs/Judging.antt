@@ -1,7 +1,7 @@
 -- Judging a frame: from the record at its rise, the settings and the facts of the frame to the record afterwards, the
 -- outcome, the driven positions and what is to be done. What a memory holds is not among its arguments. Assumes
 -- nothing.
-use Rattle.std.specs.Prelude.{ℕ, ◌-◌, min, Bool, cond, not, ◌&&◌, ltb, eqb}
+use Rattle.std.specs.Prelude.{Option, Some, None, ℕ, ◌-◌, min, Bool, cond, not, ◌&&◌, ltb, eqb}
 use Rattle.opcodes.specs.declared.Row.{Row}
 use Rattle.opcodes.specs.declared.Command.{Command}
 use Rattle.opcodes.specs.declared.Command.TheVariants.{Unlisted, Reads, Orders, Works}
@@ -26,7 +26,7 @@ use Rattle.judge.specs.declared.Outcome.{Outcome}
 use Rattle.judge.specs.declared.Action.{Action}
 use Rattle.device.specs.Device.{deep, ultra_deep, latched, dropped, moved, woken, working, reset, marked, written}
 use Rattle.device.specs.Device.{enabled}
-use Rattle.judge.specs.Causes.{on_boundary, is_none, cause_of, drops}
+use Rattle.judge.specs.Causes.{on_boundary, cause_of, drops}
 use Rattle.settings.specs.Settings.{duration_of}
 
 -- an outcome with nothing driven and no memory to change
@@ -103,11 +103,9 @@ obeyed (Orders order) r d s f = ordered order d
 obeyed (Works work) r d s f = carried work d s f
 
 -- without a cause a command is carried out; with one it is aborted, if it needs WEL and has it, or comes to nothing
-unfoldable pub ended : Cause → Row → Device → Settings → Facts → Judged
-ended cause r d s f =
-    cond (is_none cause) (obeyed r.command r d s f)
-    (cond (drops cause r) (aborted cause d)
-    (nothing cause d))
+unfoldable pub ended : Option Cause → Row → Device → Settings → Facts → Judged
+ended None r d s f = obeyed r.command r d s f
+ended (Some cause) r d s f = cond (drops cause r) (aborted cause d) (nothing cause d)
 
 -- in deep power-down the row that says so wakes the part, on a boundary: ABh
 abbrev pub wakes : Row → Device → Facts → Bool

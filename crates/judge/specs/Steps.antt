@@ -1,6 +1,8 @@
 -- Judging a frame step by step, as the code goes: which of the causes each opcode knows, in the list's order. That it
 -- is judging by the list is a law. Assumes nothing.
-use Rattle.std.specs.Prelude.{Bool, false, cond, not, ◌&&◌, ltb}
+use Rattle.std.specs.Prelude.{Option, None, cond, not, ◌&&◌, ltb}
+use Rattle.std.specs.Bool.{then_some}
+use Rattle.std.specs.Option.{option_map_or}
 use Rattle.opcodes.specs.declared.Row.{Row}
 use Rattle.opcodes.specs.declared.Command.{Command}
 use Rattle.opcodes.specs.declared.Command.TheVariants.{Unlisted, Reads, Orders, Works}
@@ -14,7 +16,7 @@ use Rattle.settings.specs.declared.Settings.{Settings}
 use Rattle.judge.specs.declared.Facts.{Facts}
 use Rattle.judge.specs.declared.Judged.{Judged}
 use Rattle.judge.specs.declared.Cause.{Cause}
-use Rattle.judge.specs.declared.Cause.TheVariants.{None, TooFewBits, Asleep, Busy, UnknownOpcode, LatchClear}
+use Rattle.judge.specs.declared.Cause.TheVariants.{TooFewBits, Asleep, Busy, UnknownOpcode, LatchClear}
 use Rattle.judge.specs.declared.Cause.TheVariants.{ResetUnconfirmed, OffBoundary, Incomplete, Protected, Locked}
 use Rattle.judge.specs.declared.Cause.TheVariants.{AlreadyProgrammed, AlreadyAwake}
 use Rattle.judge.specs.Causes.{on_boundary, confirmed}
@@ -33,27 +35,20 @@ ordering UltraDeepPowerDown d f = bounded UltraDeepPowerDown d f
 ordering Resume d f = nothing AlreadyAwake d
 ordering Reset d f = cond (not (confirmed d f)) (nothing ResetUnconfirmed d) (bounded Reset d f)
 
--- what may bar a command that needs WEL, and whether it does: protection, the OTP-used mark, BPL 1 with WP low
-abbrev pub bar : Work → Cause
-bar Work.Program = Protected
-bar (Work.Erase region) = Protected
-bar Work.Otp = AlreadyProgrammed
-bar Work.WriteStatus = Locked
-bar Work.WriteStatusTwo = None
-
-abbrev pub barred : Work → Device → Facts → Bool
-barred Work.Program d f = d.bp0
-barred (Work.Erase region) d f = d.bp0
-barred Work.Otp d f = d.used
-barred Work.WriteStatus d f = d.bpl && not f.wp
-barred Work.WriteStatusTwo d f = false
+-- what bars a command that needs WEL: protection, the OTP-used mark, BPL 1 with WP low
+abbrev pub bar : Work → Device → Facts → Option Cause
+bar Work.Program d f = then_some d.bp0 Protected
+bar (Work.Erase region) d f = then_some d.bp0 Protected
+bar Work.Otp d f = then_some d.used AlreadyProgrammed
+bar Work.WriteStatus d f = then_some (d.bpl && not f.wp) Locked
+bar Work.WriteStatusTwo d f = None
 
 abbrev pub working : Work → Row → Device → Settings → Facts → Judged
 working work r d s f =
     cond (not d.wel) (nothing LatchClear d)
     (cond (not (on_boundary f)) (aborted OffBoundary d)
     (cond (ltb f.bytes r.bytes) (aborted Incomplete d)
-    (cond (barred work d f) (aborted (bar work) d)
+    (option_map_or (λ cause. aborted cause d) (bar work d f)
     (carried work d s f))))
 
 abbrev pub by_opcode : Command → Row → Device → Settings → Facts → Judged

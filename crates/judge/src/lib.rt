@@ -24,49 +24,34 @@ pub struct Facts {
     pub busy: bool,
 }
 
-// Why nothing came of a frame, or why it was aborted, in request R-5's order. A call that is refused has none.
-#[derive(Clone, Copy)]
+// Why nothing came of a frame, or why it was aborted, in request R-5's order.
+#[derive(Clone, Copy, Debug, PartialEq, Eq)]
 pub enum Cause {
-    None,
-    TooFewBits,
-    Asleep,
-    Busy,
-    UnknownOpcode,
-    LatchClear,
-    ResetUnconfirmed,
-    OffBoundary,
-    Incomplete,
-    Protected,
-    Locked,
-    AlreadyProgrammed,
-    AlreadyAwake,
+    TooFewBits = 1,
+    Asleep = 2,
+    Busy = 3,
+    UnknownOpcode = 4,
+    LatchClear = 5,
+    ResetUnconfirmed = 6,
+    OffBoundary = 7,
+    Incomplete = 8,
+    Protected = 9,
+    Locked = 10,
+    AlreadyProgrammed = 11,
+    AlreadyAwake = 12,
 }
 
 impl Cause {
-    // Its place in the list; 0 for none.
+    // Its place in the list.
     pub fn number(self) -> u8
         ensures { result ≡ causes.cause_number self }
     {
-        match self {
-            Cause::None => 0,
-            Cause::TooFewBits => 1,
-            Cause::Asleep => 2,
-            Cause::Busy => 3,
-            Cause::UnknownOpcode => 4,
-            Cause::LatchClear => 5,
-            Cause::ResetUnconfirmed => 6,
-            Cause::OffBoundary => 7,
-            Cause::Incomplete => 8,
-            Cause::Protected => 9,
-            Cause::Locked => 10,
-            Cause::AlreadyProgrammed => 11,
-            Cause::AlreadyAwake => 12,
-        }
+        self as u8
     }
 }
 
 // The outcomes, by document 01's words; nothing and aborted with their cause.
-#[derive(Clone, Copy)]
+#[derive(Clone, Copy, Debug, PartialEq, Eq)]
 pub enum Outcome {
     Nothing(Cause),
     Read,
@@ -114,9 +99,8 @@ fn quiet(outcome: Outcome, device: Device) -> Judged
 fn begun(device: Device, ticks: u64, action: Action) -> Judged
     ensures { result ≡ judging.begun device ticks action }
 {
-    let busy = device.dropped().working(ticks);
     Judged {
-        device: busy,
+        device: device.dropped().working(ticks),
         outcome: Outcome::Begun,
         first: 0,
         driven: 0,
@@ -137,14 +121,7 @@ fn driven(row: Row, facts: Facts) -> usize
 {
     let first = row.first as usize;
     let most = row.most as usize;
-    if facts.bytes <= first {
-        return 0;
-    }
-    if facts.bytes - first < most {
-        facts.bytes - first
-    } else {
-        most
-    }
+    facts.bytes.saturating_sub(first).min(most)
 }
 
 // A read: the first driven position is 0 where none is driven.
@@ -152,19 +129,10 @@ fn read(row: Row, source: Source, device: Device, facts: Facts) -> Judged
     ensures { result ≡ judging.read row source device facts }
 {
     let driven = driven(row, facts);
-    if driven == 0 {
-        return Judged {
-            device,
-            outcome: Outcome::Read,
-            first: 0,
-            driven,
-            action: Action::Drive(source),
-        };
-    }
     Judged {
         device,
         outcome: Outcome::Read,
-        first: row.first as usize,
+        first: if driven == 0 { 0 } else { row.first as usize },
         driven,
         action: Action::Drive(source),
     }
@@ -207,9 +175,10 @@ fn program_kind(facts: Facts) -> Kind
     ensures { result ≡ judging.program_kind facts }
 {
     if facts.bytes == 5 {
-        return Kind::ByteProgram;
+        Kind::ByteProgram
+    } else {
+        Kind::LongerProgram
     }
-    Kind::LongerProgram
 }
 
 // The commands that need the latch.
@@ -269,7 +238,7 @@ fn bounded(order: Order, device: Device, facts: Facts) -> Judged
 fn reset(device: Device, facts: Facts) -> Judged
     ensures { result ≡ steps.ordering Order.Reset device facts }
 {
-    if !(device.rste & ((facts.second == 0xD0) & (16 <= facts.bits))) {
+    if !(device.rste && facts.second == 0xD0 && 16 <= facts.bits) {
         return nothing(Cause::ResetUnconfirmed, device);
     }
     bounded(Order::Reset, device, facts)
@@ -280,38 +249,21 @@ fn ordering(order: Order, device: Device, facts: Facts) -> Judged
     ensures { result ≡ steps.ordering order device facts }
 {
     match order {
-        Order::Enable => bounded(Order::Enable, device, facts),
-        Order::Disable => bounded(Order::Disable, device, facts),
-        Order::DeepPowerDown => bounded(Order::DeepPowerDown, device, facts),
-        Order::UltraDeepPowerDown => bounded(Order::UltraDeepPowerDown, device, facts),
         Order::Resume => nothing(Cause::AlreadyAwake, device),
         Order::Reset => reset(device, facts),
+        _ => bounded(order, device, facts),
     }
 }
 
-// What may bar a command that needs the latch.
-fn bar(work: Work) -> Cause
-    ensures { result ≡ steps.bar work }
+// What bars a command that needs the latch: protection, the OTP-used mark or the locked status.
+fn bar(work: Work, device: Device, facts: Facts) -> Option<Cause>
+    ensures { result ≡ steps.bar work device facts }
 {
     match work {
-        Work::Program => Cause::Protected,
-        Work::Erase(_) => Cause::Protected,
-        Work::Otp => Cause::AlreadyProgrammed,
-        Work::WriteStatus => Cause::Locked,
-        Work::WriteStatusTwo => Cause::None,
-    }
-}
-
-// Whether protection, the OTP-used mark or the locked status bars it.
-fn barred(work: Work, device: Device, facts: Facts) -> bool
-    ensures { result ≡ steps.barred work device facts }
-{
-    match work {
-        Work::Program => device.bp0,
-        Work::Erase(_) => device.bp0,
-        Work::Otp => device.used,
-        Work::WriteStatus => device.bpl & !facts.wp,
-        Work::WriteStatusTwo => false,
+        Work::Program | Work::Erase(_) => device.bp0.then_some(Cause::Protected),
+        Work::Otp => device.used.then_some(Cause::AlreadyProgrammed),
+        Work::WriteStatus => (device.bpl && !facts.wp).then_some(Cause::Locked),
+        Work::WriteStatusTwo => None,
     }
 }
 
@@ -328,18 +280,17 @@ fn working(work: Work, row: Row, device: Device, settings: Settings, facts: Fact
     if facts.bytes < row.bytes as usize {
         return aborted(Cause::Incomplete, device);
     }
-    if barred(work, device, facts) {
-        return aborted(bar(work), device);
+    match bar(work, device, facts) {
+        Some(cause) => aborted(cause, device),
+        None => carried(work, device, settings, facts),
     }
-    carried(work, device, settings, facts)
 }
 
 // By opcode, an awake part that hears the frame.
 fn by_opcode(row: Row, device: Device, settings: Settings, facts: Facts) -> Judged
     ensures { result ≡ steps.by_opcode row.command row device settings facts }
 {
-    let command = row.command;
-    match command {
+    match row.command {
         Command::Unlisted => nothing(Cause::UnknownOpcode, device),
         Command::Reads(source) => read(row, source, device, facts),
         Command::Orders(order) => ordering(order, device, facts),
@@ -351,7 +302,7 @@ fn by_opcode(row: Row, device: Device, settings: Settings, facts: Facts) -> Judg
 fn asleep(row: Row, device: Device, facts: Facts) -> Judged
     ensures { result ≡ steps.asleep row device facts }
 {
-    if row.asleep & on_boundary(facts) {
+    if row.asleep && on_boundary(facts) {
         return ordered(Order::Resume, device);
     }
     nothing(Cause::Asleep, device)
@@ -359,22 +310,16 @@ fn asleep(row: Row, device: Device, facts: Facts) -> Judged
 
 // A frame goes by the first cause of the request's list that holds, and by its opcode if none does. The five steps of
 // document 01 find it: each opcode knows some of the causes.
+#[tactic(auto, using(crate::proofs::Steps::by_steps), unfolding(crate::specs::Steps::stepped))]
 pub fn judge(device: Device, settings: Settings, facts: Facts) -> Judged
     ensures { result ≡ judging.judged device settings facts }
 {
-    let mode = device.mode;
-    if mode.is_ultra_deep() {
-        return quiet(Outcome::Control, device.woken());
-    }
-    if facts.bits < 8 {
-        return nothing(Cause::TooFewBits, device);
-    }
-    if mode.is_deep() {
-        return asleep(opcodes::row_of(facts.code), device, facts);
-    }
     let row = opcodes::row_of(facts.code);
-    if facts.busy & !row.busy {
-        return nothing(Cause::Busy, device);
+    match device.mode {
+        Mode::UltraDeep => quiet(Outcome::Control, device.woken()),
+        _ if facts.bits < 8 => nothing(Cause::TooFewBits, device),
+        Mode::Deep => asleep(row, device, facts),
+        Mode::Awake if facts.busy && !row.busy => nothing(Cause::Busy, device),
+        Mode::Awake => by_opcode(row, device, settings, facts),
     }
-    by_opcode(row, device, settings, facts)
 }

@@ -1,2 +1,1 @@
-pub mod Off
 pub mod Above

@@ -1,6 +1,6 @@
 -- The ledger: what each account was billed, and what one call makes of it. Assumes nothing.
 use Rattle.std.specs.Prelude.{ℕ, zero, suc, ◌+◌, min, max, Bool, false, cond, not, ◌||◌, List, ltb, eqb, get_or, set}
-use Rattle.std.specs.Prelude.{replicate}
+use Rattle.std.specs.Prelude.{replicate, Result, Ok, Err}
 use lib.Text.{eqt}
 use Rattle.calls.specs.declared.Signals.{Signals}
 use Rattle.refusals.specs.declared.Refusal.{Refusal}
@@ -97,14 +97,8 @@ abbrev pub closed : Ledger → Ledger
 closed l = ledger (replicate 256 0) (replicate 256 0) (replicate 256 0) (runs l.running.account 0)
 
 -- the report on an account: its total, its most and its number; refusal 9 where there is none
-abbrev pub reported : ℕ → List ℕ → List ℕ → List ℕ → Reported
+abbrev pub reported : ℕ → List ℕ → List ℕ → List ℕ → Result Reported Refusal
 reported account totals most numbers =
     cond (is_account account)
-    (record {
-      refusal = Refusal.Accepted;
-      total = get_or totals account 0;
-      most = get_or most account 0;
-      number = get_or numbers
-          account 0;
-    })
-    (record { refusal = Refusal.Account; total = 0; most = 0; number = 0 })
+    (Ok (record { total = get_or totals account 0; most = get_or most account 0; number = get_or numbers account 0 }))
+    (Err Refusal.Account)

@@ -9,18 +9,18 @@ use borrow.Author.Tests.{ltb-true, eqb-true, ne_eqb}
 use lib.Dec.{ltb, eqb}
 use Rattle.device.proofs.Records.{sound_then}
 use Rattle.calls.specs.declared.Lengths.{Lengths}
-use Rattle.refusals.specs.Refusals.{number_of}
+use Rattle.refusals.specs.Refusals.{number_in}
 use Rattle.calls.proofs.Accepting.{accepted}
-use Rattle.part.specs.declared.Answer.{Answer}
+use Rattle.device.specs.declared.Device.{Device}
+use Rattle.std.specs.Prelude.{Ok, Err}
 use Rattle.part.specs.Frame as part
-use Rattle.part.specs.Frame.{Call, Lent, Reply, Result, lengths_of, number_for, refused, turned_away, reply_of}
+use Rattle.part.specs.Frame.{Call, Lent, Reply, Result, lengths_of, number_for, refused, turned_away, Came, reply_of}
 use Rattle.part.proofs.Answers as answers
 use Rattle.part.proofs.Answers.{refusal_is}
 use Rattle.ledger.specs.Ledger.{Ledger, limit, any_above, shut, booked}
 use Rattle.watch.specs.Watch.{Bounded, watched, raised}
 use Rattle.watch.proofs.Bounds.{watched_tells}
 use Rattle.watch.proofs.Rises.{rises}
-use Rattle.ledger_frame.specs.declared.Booked.{Booked}
 use Rattle.ledger_frame.specs.Frame as through
 use Rattle.ledger_frame.specs.Frame.{shut_out, replied, frame, Meets}
 
@@ -37,12 +37,17 @@ open_to account l e = by (ltb account 256) (any_above l.totals) (any_above l.num
     by true false true e p q r = absurd (true≢false e)
     by false t n e p q r = absurd (true≢false e)
 
+-- what comes back carries the number of what came
+numbered : (d : Device) (a : Came) → (reply_of d a).refusal ≡ number_in a
+numbered d (Ok a) = refl
+numbered d (Err refusal) = refl
+
 -- an accepted call has no more busy ticks left than an operation may take
-pub short : (c : Call) (m n : Lent) (a : Answer) → part.Meets c m a n → number_of a.refusal ≡ 0
+pub short : (c : Call) (m n : Lent) (a : Came) → part.Meets c m a n → number_in a ≡ 0
     → c.device.busy ≤ 60000000
 unfolding part.frame number_for
 short c m n a e z =
-    let number = sym (refusal_is c (lengths_of c m)) ∙ (sym (ap (λ (r : Result). r.reply.refusal) e) ∙ z) in
+    let number = sym (refusal_is c (lengths_of c m)) ∙ (sym (ap (λ (r : Result). r.reply.refusal) e) ∙ (numbered c.device a ∙ z)) in
     (sound_then c.device (accepted c.device c.settings c.signals (lengths_of c m) number).sound).short
 
 -- shut: the call is refused, and all is as it was
@@ -56,9 +61,10 @@ shut_frame c m account l r e p = by (ℕ_discrete (number_for c (lengths_of c m)
     by (no n) = let refused-so = ne_eqb (number_for c (lengths_of c m)) 0 n in rw (p, e, refused-so) (rw refused-so)
 
 -- not shut: the part answers, and what it did is booked
-pub open_frame : (c : Call) (m n : Lent) (a : Answer) (account : ℕ) (l kept : Ledger) → shut account l ≡ false
+pub open_frame : (c : Call) (m n : Lent) (a : Came) (account : ℕ) (l kept : Ledger) → shut account l ≡ false
     → part.Meets c m a n
-    → kept ≡ booked c.device.busy c.signals (reply_of a) account l → Meets c m account l (reply_of a) n kept
+    → kept ≡ booked c.device.busy c.signals (reply_of c.device a) account l
+    → Meets c m account l (reply_of c.device a) n kept
 unfolding frame replied part.frame
 open_frame c m n a account l kept e f p =
     rw (e, and-false (eqb (number_for c (lengths_of c m)) 0), p)
@@ -155,12 +161,12 @@ never_255 c m account l = by (shut_out c (lengths_of c m) account l)
     by false e = answers.call_never_255 c (lengths_of c m) e
 
 -- the contract admits one answer, and no other
-pub one_answer : (c : Call) (m n o : Lent) (account : ℕ) (l k j : Ledger) (a b : Booked)
-    → Meets c m account l (reply_of a.answer) n k
-    → Meets c m account l (reply_of b.answer) o j → (a.answer ≡ b.answer) × (n ≡ o) × (k ≡ j)
+pub one_answer : (c : Call) (m n o : Lent) (account : ℕ) (l k j : Ledger) (a b : Came)
+    → Meets c m account l (reply_of c.device a) n k
+    → Meets c m account l (reply_of c.device b) o j → (a ≡ b) × (n ≡ o) × (k ≡ j)
 one_answer c m n o account l k j a b p q =
     let e = p ∙ sym q in (
-      answers.same_reply a.answer b.answer (ap (λ (r : through.Result). r.reply) e),
+      answers.same_reply c.device a b (ap (λ (r : through.Result). r.reply) e),
       ap (λ (r : through.Result). r.lent) e,
       ap (λ (r : through.Result). r.ledger) e,
     )

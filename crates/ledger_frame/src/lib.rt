@@ -3,161 +3,81 @@
 #![tactic(auto)]
 
 ghost use Rattle.std.specs.Prelude.{◌≡◌};
-ghost use Rattle.part.specs.Frame.{call, lent, reply_of};
+ghost use Rattle.calls.specs.Lent.{SameMemories};
+ghost use Rattle.part.specs.Frame.{call_of, lent_of, reply_of};
+ghost use Rattle.ledger.specs.Lent.{ledger_of, SameTables};
 ghost use Rattle.ledger.specs.Ledger as spec;
 ghost use Rattle.watch.specs.Watch.{Bounded, watched, raised};
 ghost use Rattle.ledger_frame.specs.Frame as through;
 
-use calls::Signals;
-use device::Device;
-use ledger::{ACCOUNTS, LIMIT, Running, book, is_shut};
+use calls::{Call, Lent};
+use ledger::{ACCOUNTS, LIMIT, Ledger, is_shut};
 use part::{Answer, frame, turned_away};
 use refusals::Refusal;
-use settings::Settings;
 use watch::{raised, watched};
-
-// What a call through the ledger comes back with.
-#[derive(Clone, Copy)]
-pub struct Booked {
-    pub answer: Answer,
-    pub running: Running,
-}
-
-// What a call in a run comes back with, beside a bound that no word of the tables is above.
-#[derive(Clone, Copy)]
-pub struct Watched {
-    pub booked: Booked,
-    pub bound: u64,
-}
 
 // One call for an account, by somebody who knows whether the ledger is shut to it.
 fn frame_knowing(
     shut: bool,
-    device: Device,
-    settings: Settings,
-    array: &mut [u8],
-    register: &mut [u8],
-    input: &[u8],
-    signals: Signals,
-    output: &mut [u8],
+    call: &Call<'_>,
+    lent: &mut Lent<'_>,
     account: u64,
-    running: Running,
-    totals: &mut [u64; 256],
-    most: &mut [u64; 256],
-    numbers: &mut [u64; 256],
-) -> Booked
-    requires { shut ≡ spec.shut account (spec.ledger totals.old most.old numbers.old running) }
-    ensures { through.Meets (call device settings input.now signals)
-        (lent array.old register.old output.old) account
-        (spec.ledger totals.old most.old numbers.old running) (reply_of result.answer)
-        (lent array.new register.new output.new)
-        (spec.ledger totals.new most.new numbers.new result.running) }
+    ledger: &mut Ledger<'_>,
+) -> Result<Answer, Refusal>
+    requires { shut ≡ spec.shut account (ledger_of ledger.old) }
+    ensures meets { through.Meets (call_of call.now) (lent_of lent.old) account (ledger_of ledger.old)
+        (reply_of call.now.device result) (lent_of lent.new) (ledger_of ledger.new) }
+    ensures same_memories { SameMemories lent.old lent.new }
+    ensures same_tables { SameTables ledger.old ledger.new }
 {
     if shut {
-        let answer = turned_away(
-            Refusal::Account,
-            device,
-            settings,
-            array,
-            register,
-            input,
-            signals,
-            output,
-        );
-        return Booked { answer, running };
+        return Err(turned_away(Refusal::Account, call, lent));
     }
-    let busy = device.busy;
-    let answer = frame(device, settings, array, register, input, signals, output);
-    let running = book(
-        answer, busy, signals, account, running, totals, most, numbers,
-    );
-    Booked { answer, running }
+    let came = frame(call, lent);
+    ledger.book(call, &came, account);
+    came
 }
 
 // One call for an account: whatever is handed in, it ends, and answers as the definition of a frame through the ledger
 // says.
 pub fn frame_for(
-    device: Device,
-    settings: Settings,
-    array: &mut [u8],
-    register: &mut [u8],
-    input: &[u8],
-    signals: Signals,
-    output: &mut [u8],
+    call: &Call<'_>,
+    lent: &mut Lent<'_>,
     account: u64,
-    running: Running,
-    totals: &mut [u64; 256],
-    most: &mut [u64; 256],
-    numbers: &mut [u64; 256],
-) -> Booked
-    ensures { through.Meets (call device settings input.now signals)
-        (lent array.old register.old output.old) account
-        (spec.ledger totals.old most.old numbers.old running) (reply_of result.answer)
-        (lent array.new register.new output.new)
-        (spec.ledger totals.new most.new numbers.new result.running) }
+    ledger: &mut Ledger<'_>,
+) -> Result<Answer, Refusal>
+    ensures meets { through.Meets (call_of call.now) (lent_of lent.old) account (ledger_of ledger.old)
+        (reply_of call.now.device result) (lent_of lent.new) (ledger_of ledger.new) }
+    ensures same_memories { SameMemories lent.old lent.new }
+    ensures same_tables { SameTables ledger.old ledger.new }
 {
-    frame_knowing(
-        is_shut(account, totals, numbers),
-        device,
-        settings,
-        array,
-        register,
-        input,
-        signals,
-        output,
-        account,
-        running,
-        totals,
-        most,
-        numbers,
-    )
+    let totals = &mut *ledger.totals;
+    let numbers = &mut *ledger.numbers;
+    let shut = is_shut(account, totals, numbers);
+    frame_knowing(shut, call, lent, account, ledger)
 }
 
 // The same call in a run that knows a number which no word of the tables is above: these are read only where that
-// number is above the limit.
+// number is above the limit. The number becomes one that no word is above afterwards.
 pub fn frame_watched(
-    bound: u64,
-    device: Device,
-    settings: Settings,
-    array: &mut [u8],
-    register: &mut [u8],
-    input: &[u8],
-    signals: Signals,
-    output: &mut [u8],
+    bound: &mut u64,
+    call: &Call<'_>,
+    lent: &mut Lent<'_>,
     account: u64,
-    running: Running,
-    totals: &mut [u64; 256],
-    most: &mut [u64; 256],
-    numbers: &mut [u64; 256],
-) -> Watched
-    requires { Bounded bound (spec.ledger totals.old most.old numbers.old running) }
-    ensures meets { through.Meets (call device settings input.now signals)
-        (lent array.old register.old output.old) account
-        (spec.ledger totals.old most.old numbers.old running) (reply_of result.booked.answer)
-        (lent array.new register.new output.new)
-        (spec.ledger totals.new most.new numbers.new result.booked.running) }
-    ensures bound_after { result.bound ≡ raised (watched bound totals.old numbers.old) }
-    ensures bounded { Bounded result.bound
-        (spec.ledger totals.new most.new numbers.new result.booked.running) }
+    ledger: &mut Ledger<'_>,
+) -> Result<Answer, Refusal>
+    requires { Bounded bound.old (ledger_of ledger.old) }
+    ensures meets { through.Meets (call_of call.now) (lent_of lent.old) account (ledger_of ledger.old)
+        (reply_of call.now.device result) (lent_of lent.new) (ledger_of ledger.new) }
+    ensures bound_after { bound.new ≡ raised (watched bound.old ledger.old.totals.now ledger.old.numbers.now) }
+    ensures bounded { Bounded bound.new (ledger_of ledger.new) }
+    ensures same_memories { SameMemories lent.old lent.new }
+    ensures same_tables { SameTables ledger.old ledger.new }
 {
-    let known = watched(bound, totals, numbers);
-    let booked = frame_knowing(
-        !(account < ACCOUNTS) | (LIMIT < known),
-        device,
-        settings,
-        array,
-        register,
-        input,
-        signals,
-        output,
-        account,
-        running,
-        totals,
-        most,
-        numbers,
-    );
-    Watched {
-        booked,
-        bound: raised(known),
-    }
+    let totals = &mut *ledger.totals;
+    let numbers = &mut *ledger.numbers;
+    let known = watched(*bound, totals, numbers);
+    *bound = raised(known);
+    let shut = !(account < ACCOUNTS) | (LIMIT < known);
+    frame_knowing(shut, call, lent, account, ledger)
 }

@@ -1,24 +1,28 @@
 -- A series through the ledger on memories: what the ledger lets through is a series of the part, and the rest changes nothing.
 -- Assumes nothing.
+use Prim.Native.Nat.{ℕ}
 use mathlib.Core.Bool.{Bool, true, false, cond}
 use mathlib.Core.List.{List, [], ◌∷◌, map}
 use mathlib.Core.Path.{◌≡◌, refl, sym, ap, ◌∙◌}
 use Rattle.runs.specs.Run as run
 use Rattle.runs.proofs.Laws.{gathered_mapped, end_seen, gathered_seen, end_alike, gathered_alike, outputs_alike}
 use Rattle.runs.proofs.Laws.{as_the_run, can_be_run as run_of}
+use Rattle.std.specs.Prelude.{Ok, Err}
+use Rattle.device.specs.declared.Device.{Device}
 use Rattle.calls.specs.declared.Lengths.{Lengths}
 use Rattle.refusals.specs.declared.Refusal.{Refusal}
-use Rattle.part.specs.declared.Answer.{Answer}
+use Rattle.refusals.proofs.Numbers.{never_0}
 use Rattle.part.specs.Frame as part
-use Rattle.part.specs.Frame.{Call, Lent, Reply, refused, refusing, reply_of}
+use Rattle.part.specs.Frame.{Call, Lent, Reply, Came, refused, reply_of}
 use Rattle.part.proofs.Answers.{answer_of, some_answer}
 use Rattle.series.specs.Turns.{Turn, call_of, lengths_of}
 use Rattle.series.specs.Series as series
 use Rattle.series.specs.Series.{Step, lent_to}
 use Rattle.series.proofs.Lending.{returned_same}
 use Rattle.series.proofs.Steps.{same_lengths}
-use Rattle.ledger.specs.Ledger.{booked}
-use Rattle.ledger_frame.specs.Frame.{Result, shut_out, replied, frame}
+use Rattle.ledger.specs.Ledger.{Ledger, booked}
+use Rattle.ledger_frame.specs.Frame.{Result, Meets, shut_out, replied, frame}
+use Rattle.ledger_frame.proofs.Frames.{refused_leaves}
 use Rattle.ledger_series.specs.Entries as entries
 use Rattle.ledger_series.specs.Entries.{Entry, Done, Books, entry, books, reply_to, ledger_by, calls, last_record}
 use Rattle.ledger_series.specs.Entries.{last_ledger, turns_through}
@@ -37,6 +41,19 @@ reply_in r = r.reply
 
 abbrev turn_in : Step → Turn
 turn_in s = s.turn
+
+-- What came of a call meets its contract if, with the record that it was handed, it is what the frame returns. From a
+-- refused call the frame returns the record of the call, so it was handed that one.
+pub met : (c : Call) (m : Lent) (account : ℕ) (l : Ledger) (d : Device) (came : Came) (after : Lent) (kept : Ledger)
+    → Meets c m account l (reply_of d came) after kept → Meets c m account l (reply_of c.device came) after kept
+met c m account l d (Ok a) after kept e = e
+met c m account l d (Err refusal) after kept e =
+    ap {B = Result} (λ (d : Device). record { reply = reply_of d (Err refusal); lent = after; ledger = kept }) (sym same) ∙ e
+  where
+    same : d ≡ c.device
+    same =
+        ap (λ (r : Result). r.reply.device) e ∙
+        (refused_leaves c m account l (λ z. never_0 refusal (ap (λ (r : Result). r.reply.refusal) e ∙ z))).0
 
 module _ (b : Booking) (t : Desk) where
   abbrev turn : Turn
@@ -68,15 +85,15 @@ module _ (b : Booking) (t : Desk) where
       (rw (returned_same turn.array t.state.array b.step.behind.array, returned_same turn.register t.state.register b.step.behind.register))
   state_through false e = rw (same_lengths b.step t.state, e)
 
-  -- an answer that meets the contract of the code
-  answer_to : Answer
-  answer_to = cond (shut_to (part.lengths_of c m)) (refusing Refusal.Account t.state.device) (answer_of c (part.lengths_of c m))
+  -- what comes of a call that meets the contract of the code
+  came_to : Came
+  came_to = cond (shut_to (part.lengths_of c m)) (Err Refusal.Account) (answer_of c (part.lengths_of c m))
 
-  answers : reply_of answer_to ≡ (result_of b t).reply
-  unfolding answer_to frame replied part.frame
+  answers : reply_of t.state.device came_to ≡ (result_of b t).reply
+  unfolding came_to frame replied part.frame
   answers = by (shut_to (part.lengths_of c m))
     where
-      by : (s : Bool) → reply_of (cond s (refusing Refusal.Account t.state.device) (answer_of c (part.lengths_of c m)))
+      by : (s : Bool) → reply_of t.state.device (cond s (Err Refusal.Account) (answer_of c (part.lengths_of c m)))
           ≡ cond s (refused 9 t.state.device) (part.replied c (part.lengths_of c m))
       by true = refl
       by false = ap (λ (r : part.Result). r.reply) (some_answer c m)
@@ -120,9 +137,7 @@ module _ (b : Booking) (t : Desk) where
 
   -- a call that meets the contract of the code
   pub made : Made
-  made =
-      let l = (result_of b t).ledger in
-      record { booked = record { answer = answer_to; running = l.running }; lent = (result_of b t).lent; totals = l.totals; most = l.most; numbers = l.numbers }
+  made = record { device = t.state.device; answer = came_to; lent = (result_of b t).lent; ledger = (result_of b t).ledger }
 
   pub meets : made_of made ≡ result_of b t
   unfolding made

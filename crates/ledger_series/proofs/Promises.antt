@@ -30,7 +30,7 @@ use Rattle.ledger_series.proofs.Most.{most}
 use Rattle.ledger_series.proofs.Together.{together}
 use Rattle.ledger_series.proofs.Polls.{whoever_polls, refused_changes_nothing}
 use Rattle.ledger_series.proofs.Memories.{as_the_part, answers_as_the_part, as_computed, as_the_code_does}
-use Rattle.ledger_series.proofs.Memories.{can_be_run}
+use Rattle.ledger_series.proofs.Memories.{can_be_run, met}
 
 never_from_stored_bytes : (bs also : List Booking) (t u : Desk) → entries_of bs ≡ entries_of also → t.state.device ≡ u.state.device → t.ledger ≡ u.ledger
     → (map (λ (r : Result). r.reply) (results bs t) ≡ map (λ (r : Result). r.reply) (results also u)) × ((end bs t).ledger ≡ (end also u).ledger)
@@ -71,7 +71,12 @@ promises =
     record {
       one_after_the_other = λ e es d l c r k p q s. rw (s, q, p) (one_entry e es d l);
       frame_by_frame = λ b bs t r p. rw p (one_gathered next (run.one result_of) b bs t, one_end next b bs t);
-      call_by_call = one_ran result_of left made_of;
+      call_by_call =
+          λ b bs t u a rest r. let one = one_ran result_of left made_of b bs t u a rest r in (
+            met (call_of b.step.turn t.state.device) (series.lent_to b.step t.state) b.account t.ledger a.device
+                a.answer a.lent a.ledger one.0,
+            one.1,
+          );
       nine_exactly = λ e d l. nine_exactly (call_of e.turn d) (lengths_of e.turn) e.account l;
       billed_by_the_code = billed_by_the_code;
       billed_to_the_beginner = from_empty;

@@ -11,7 +11,7 @@ use Rattle.series.specs.Turns as turns
 use Rattle.series.specs.Turns.{Turn, call_of, lengths_of}
 use Rattle.series.specs.Series as series
 use Rattle.operations.specs.Bytes.{since, bytes_at, and_all, start_at}
-use Rattle.ledger.specs.Ledger.{Ledger, ledger, empty, shut, booked, closed}
+use Rattle.ledger.specs.Ledger.{Ledger, empty, shut, booked, closed}
 use Rattle.ledger_frame.specs.Frame as through
 use Rattle.ledger_frame.specs.Frame.{Result}
 use Rattle.ledger_series.specs.Entries.{Entry, Done, entry, reply_to, calls, last_record, last_ledger, turns_through}
@@ -55,8 +55,7 @@ pub record Promises : Type 0 where
   pub call_by_call : (b : Booking) (bs : List Booking) (t u : Desk) (a : Made) (rest : List Made)
       → Ran (b ∷ bs) t (a ∷ rest) u
       → through.Meets (call_of b.step.turn t.state.device) (series.lent_to b.step t.state) b.account
-      t.ledger (reply_of a.booked.answer) a.lent
-      (ledger a.totals a.most a.numbers a.booked.running)
+      t.ledger (reply_of t.state.device a.answer) a.lent a.ledger
       × Ran bs (left (made_of a) t) rest u
   -- Refusal 9 is given exactly if no lower one is and the account is over 255, or a total or number of any account is
   -- above the limit.

@@ -1,13 +1,13 @@
 -- The same series on memories: it folds the definition of one call through the ledger. Assumes nothing.
 use Rattle.std.specs.Prelude.{ℕ, cond, List, [], ◌∷◌, map}
 use Rattle.runs.specs.Run as run
+use Rattle.device.specs.declared.Device.{Device}
 use Rattle.part.specs.Frame as part
-use Rattle.part.specs.Frame.{Lent, reply_of}
+use Rattle.part.specs.Frame.{Lent, Came, reply_of}
 use Rattle.series.specs.Turns.{call_of, lengths_of}
 use Rattle.series.specs.Series as series
 use Rattle.series.specs.Series.{Step, State, lent_to}
-use Rattle.ledger_frame.specs.declared.Booked.{Booked}
-use Rattle.ledger.specs.Ledger.{Ledger, ledger}
+use Rattle.ledger.specs.Ledger.{Ledger}
 use Rattle.ledger_frame.specs.Frame.{Result, shut_out, frame}
 use Rattle.ledger_series.specs.Entries.{Entry, entry}
 
@@ -60,22 +60,16 @@ result_through b t =
 abbrev pub results_through : List Booking → Desk → List part.Result
 results_through bs t = run.gathered next result_through bs t
 
--- A call as the code made it: what it came back with, and what it left of the memories and of the tables that it was
--- lent.
+-- A call as the code made it: the record that it was handed, which its caller keeps if it is refused; what came of it;
+-- what it left of the memories that it was lent; and the ledger afterwards.
 pub record Made : Type 0 where
-  pub booked : Booked
+  pub device : Device
+  pub answer : Came
   pub lent : Lent
-  pub totals : List ℕ
-  pub most : List ℕ
-  pub numbers : List ℕ
+  pub ledger : Ledger
 
 abbrev pub made_of : Made → Result
-made_of c =
-    record {
-      reply = reply_of c.booked.answer;
-      lent = c.lent;
-      ledger = ledger c.totals c.most c.numbers c.booked.running;
-    }
+made_of c = record { reply = reply_of c.device c.answer; lent = c.lent; ledger = c.ledger }
 
 -- The code ran the series and left the last desk: each call meets the contract of `ledger_frame::frame_for` with what
 -- the call before it left.

@@ -1,6 +1,7 @@
 -- Series through a ledger, worked by hand with the typical durations: what comes back, and what record and ledger are
 -- in the end. To compute them, judging is opened. Assumes nothing.
 use Rattle.std.specs.Prelude.{ℕ, ◌*◌, Bool, true, false, List, [], ◌∷◌, map, ◌≡◌, length, replicate, set}
+use Rattle.std.specs.Prelude.{Ok, Err}
 use Rattle.device.specs.declared.Device.{Device}
 use Rattle.device.specs.declared.Mode.TheVariants.{Awake}
 use Rattle.settings.specs.Settings.{typical}
@@ -212,13 +213,13 @@ pub record Worked : Type 0 where
       ≡ ledger zeros zeros zeros (runs 256 5)
   -- the report on an account, and on one that there is not
   pub report : reported 7 (set zeros 7 1000012) (set zeros 7 1000000) (set zeros 7 2)
-      ≡ record { refusal = Refusal.Accepted; total = 1000012; most = 1000000; number = 2 }
+      ≡ Ok (record { total = 1000012; most = 1000000; number = 2 })
   pub report_last : reported 255 (set zeros 255 3) (set zeros 255 2) (set zeros 255 1)
-      ≡ record { refusal = Refusal.Accepted; total = 3; most = 2; number = 1 }
+      ≡ Ok (record { total = 3; most = 2; number = 1 })
   pub report_other : reported 0 (set zeros 7 1000012) (set zeros 7 1000000) (set zeros 7 2)
-      ≡ record { refusal = Refusal.Accepted; total = 0; most = 0; number = 0 }
+      ≡ Ok (record { total = 0; most = 0; number = 0 })
   pub no_report : reported 256 (set zeros 7 1000012) (set zeros 7 1000000) (set zeros 7 2)
-      ≡ record { refusal = Refusal.Account; total = 0; most = 0; number = 0 }
+      ≡ Err Refusal.Account
   pub first_million : last_ledger (sent 7 0 (0x06 ∷ []) ∷ sent 7 0 (0xC7 ∷ []) ∷ poll 12 1000000 ∷ []) (busy 0) empty
       ≡ ledger (set zeros 7 1000000) (set zeros 7 1000000) (set zeros 7 1) (runs 7 1000000)
   pub all_day : last_ledger polled_by_another (busy 0) empty

@@ -1,2 +1,1 @@
 pub mod Long
-pub mod Views

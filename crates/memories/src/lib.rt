@@ -2,12 +2,12 @@
 // them without a frame. The one crate that lists sizes. It sees lengths, never a byte, and nothing of flash or text.
 #![tactic(auto)]
 
-ghost use Rattle.std.specs.Prelude.{true, cond, [], ◌≡◌, ◌%◌, ◌<◌, length};
+ghost use Rattle.std.specs.Prelude.{◌≡◌, ◌<◌, length};
 ghost use Rattle.memories.specs.Sizes.{is_array, is_register};
-ghost use Rattle.memories.specs.Look.{start_of, view_of, start_in, length_in, behind, looked_at, looked_from};
+ghost use Rattle.memories.specs.Look.{is_right, start_of, view_of, start_in, length_in, behind, looked_at, looked_from};
 
 // Which of the lent memories.
-#[derive(Clone, Copy)]
+#[derive(Clone, Copy, Debug, PartialEq, Eq)]
 pub enum Memory {
     Array,
     Register,
@@ -27,27 +27,31 @@ pub fn is_register(length: usize) -> bool
     length == 128
 }
 
-// The view of a memory that begins at an address; it has as many bytes as asked for, unless the memory ends before
-// that. Empty if the memory's length is not right.
-fn view(memory: &[u8], right: bool, address: usize, count: usize) -> &[u8]
-    requires { right ≡ true → 0 < length memory.now }
-    ensures result_value { result.now ≡ cond right (view_of memory.now address count) [] }
-    ensures ref_ptr_value { result.ref_ptr ≡ behind memory.entry.ref_ptr (cond right (start_of memory.now address) 0) }
-{
-    if right {
-        let size = memory.len();
-        let start = address % size;
-        if count < size - start {
-            let end = start + count;
-            return &memory[start..end];
+impl Memory {
+    // Whether a memory of that length is the part's.
+    fn is_right(self, length: usize) -> bool
+        ensures { result ≡ is_right self length }
+    {
+        match self {
+            Memory::Array => is_array(length),
+            Memory::Register => is_register(length),
         }
-        return &memory[start..];
     }
-    &memory[..0]
+}
+
+// The view of a memory that begins at an address; it has as many bytes as asked for, unless the memory ends before
+// that.
+fn view(memory: &[u8], address: usize, count: usize) -> &[u8]
+    requires { 0 < length memory.now }
+    ensures result_value { result.now ≡ view_of memory.now address count }
+    ensures ref_ptr_value { result.ref_ptr ≡ behind memory.entry.ref_ptr (start_of memory.now address) }
+{
+    let rest = &memory[address % memory.len()..];
+    &rest[..count.min(rest.len())]
 }
 
 // A view of the chosen memory itself: it begins at the address, reduced to the memory's size, and is as long as the
-// count, but ends where the memory ends.
+// count, but ends where the memory ends. It is empty if the memory's length is not right.
 pub fn look<'a>(
     array: &'a [u8],
     register: &'a [u8],
@@ -59,26 +63,29 @@ pub fn look<'a>(
     ensures result_len { length result.now ≡ length_in memory (length array.now) (length register.now) address count }
     ensures ref_ptr_value { result.ref_ptr ≡ looked_from memory array.entry.ref_ptr register.entry.ref_ptr array.now register.now address }
 {
-    match memory {
-        Memory::Array => view(array, is_array(array.len()), address, count),
-        Memory::Register => view(register, is_register(register.len()), address, count),
+    let chosen = match memory {
+        Memory::Array => array,
+        Memory::Register => register,
+    };
+    if memory.is_right(chosen.len()) {
+        view(chosen, address, count)
+    } else {
+        &chosen[..0]
     }
 }
 
-// Where a memory of that length begins to be looked at; at its first byte if the length is not right.
-fn start(length: usize, right: bool, address: usize) -> usize
-    requires { right ≡ true → 0 < length }
-    ensures { result ≡ cond right (address % length) 0 }
-{
-    if right { address % length } else { 0 }
-}
-
-// Where in the chosen memory a look begins, for those who have no view of it to hold, but only numbers.
+// Where in the chosen memory a look begins, for those who have no view of it to hold, but only numbers; at its first
+// byte if the length is not right.
 pub fn look_start(array: usize, register: usize, memory: Memory, address: usize) -> usize
     ensures { result ≡ start_in memory array register address }
 {
-    match memory {
-        Memory::Array => start(array, is_array(array), address),
-        Memory::Register => start(register, is_register(register), address),
+    let length = match memory {
+        Memory::Array => array,
+        Memory::Register => register,
+    };
+    if memory.is_right(length) {
+        address % length
+    } else {
+        0
     }
 }

@@ -1,4 +1,3 @@
-mod Spelling
 mod Lookup
 pub mod Table
 pub mod Kept

@@ -1,4 +1,3 @@
-pub mod Commands
 pub mod Rows
 pub mod Kinds
 pub mod Rule

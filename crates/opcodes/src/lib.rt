@@ -2,12 +2,11 @@
 #![tactic(auto)]
 
 ghost use Rattle.std.specs.Prelude.{◌≡◌};
-ghost use Rattle.opcodes.specs.Commands.{command_of};
-ghost use Rattle.opcodes.specs.Rows.{row_of};
+ghost use Rattle.opcodes.specs.Rows.{row_of, unlisted};
 
 // Where a read takes the bytes that it drives: the array, the security register, the status bytes, the device's
 // identity, or its legacy identity.
-#[derive(Clone, Copy)]
+#[derive(Clone, Copy, Debug, PartialEq, Eq)]
 pub enum Source {
     Array,
     Register,
@@ -17,7 +16,7 @@ pub enum Source {
 }
 
 // What a control command is to do.
-#[derive(Clone, Copy)]
+#[derive(Clone, Copy, Debug, PartialEq, Eq)]
 pub enum Order {
     Enable,
     Disable,
@@ -28,7 +27,7 @@ pub enum Order {
 }
 
 // What an erase covers: a page of 256 bytes, a small block of 4 KiB, a large block of 32 KiB, or the whole array.
-#[derive(Clone, Copy)]
+#[derive(Clone, Copy, Debug, PartialEq, Eq)]
 pub enum Region {
     Page,
     Small,
@@ -37,7 +36,7 @@ pub enum Region {
 }
 
 // What a command that needs the latch is to change.
-#[derive(Clone, Copy)]
+#[derive(Clone, Copy, Debug, PartialEq, Eq)]
 pub enum Work {
     Program,
     Erase(Region),
@@ -47,8 +46,9 @@ pub enum Work {
 }
 
 // What an opcode does.
-#[derive(Clone, Copy)]
+#[derive(Clone, Copy, Debug, PartialEq, Eq)]
 pub enum Command {
+    // No Option of a row: each field of such a row is read as any other row's, so each reader would have to ask twice.
     Unlisted,
     Reads(Source),
     Orders(Order),
@@ -71,88 +71,61 @@ pub struct Row {
     pub command: Command,
 }
 
-// The rows, a number each, by its hexadecimal digits: the opcode, the fewest bytes, the first position, the most
-// positions (FFFF: as many as the frame has), boundary, latch, busy, asleep, and the number of its command, which
-// `command_of` spells out.
-const ROWS: [u64; 23] = [
-    0x03_1_4_FFFF_0_0_0_0_01,
-    0x0B_1_5_FFFF_0_0_0_0_01,
-    0x77_1_6_FFFF_0_0_0_0_02,
-    0x05_1_1_FFFF_0_0_1_0_03,
-    0x9F_1_1_0004_0_0_0_0_04,
-    0x15_1_1_0002_0_0_0_0_05,
-    0x06_1_0_0000_1_0_0_0_06,
-    0x04_1_0_0000_1_0_0_0_07,
-    0xB9_1_0_0000_1_0_0_0_08,
-    0x79_1_0_0000_1_0_0_0_09,
-    0xAB_1_0_0000_0_0_0_1_0A,
-    0xF0_2_0_0000_1_0_1_0_0B,
-    0x02_5_0_0000_1_1_0_0_0C,
-    0x81_4_0_0000_1_1_0_0_0D,
-    0x20_4_0_0000_1_1_0_0_0E,
-    0x52_4_0_0000_1_1_0_0_0F,
-    0xD8_4_0_0000_1_1_0_0_0F,
-    0x60_1_0_0000_1_1_0_0_10,
-    0xC7_1_0_0000_1_1_0_0_10,
-    0x62_1_0_0000_1_1_0_0_10,
-    0x9B_5_0_0000_1_1_0_0_11,
-    0x01_2_0_0000_1_1_0_0_12,
-    0x31_2_0_0000_1_1_0_0_13,
-];
+// As many positions as the frame has: none that is accepted has more.
+const ENDLESS: u16 = 0xFFFF;
 
-// The command of a number; 0 and those past the list stand for none.
-fn command_of(number: u64) -> Command
-    ensures { result ≡ command_of number }
-{
-    match number {
-        0x01 => Command::Reads(Source::Array),
-        0x02 => Command::Reads(Source::Register),
-        0x03 => Command::Reads(Source::Status),
-        0x04 => Command::Reads(Source::Identity),
-        0x05 => Command::Reads(Source::Legacy),
-        0x06 => Command::Orders(Order::Enable),
-        0x07 => Command::Orders(Order::Disable),
-        0x08 => Command::Orders(Order::DeepPowerDown),
-        0x09 => Command::Orders(Order::UltraDeepPowerDown),
-        0x0A => Command::Orders(Order::Resume),
-        0x0B => Command::Orders(Order::Reset),
-        0x0C => Command::Works(Work::Program),
-        0x0D => Command::Works(Work::Erase(Region::Page)),
-        0x0E => Command::Works(Work::Erase(Region::Small)),
-        0x0F => Command::Works(Work::Erase(Region::Large)),
-        0x10 => Command::Works(Work::Erase(Region::Chip)),
-        0x11 => Command::Works(Work::Otp),
-        0x12 => Command::Works(Work::WriteStatus),
-        0x13 => Command::Works(Work::WriteStatusTwo),
-        _ => Command::Unlisted,
-    }
+// Writes the rows of a table out, from their fields in the order of `Row`.
+macro_rules! rows {
+    ($($code:literal $bytes:literal $first:literal $most:tt
+        $boundary:literal $latch:literal $busy:literal $asleep:literal $command:expr,)*) => {
+        [$(Row {
+            code: $code,
+            bytes: $bytes,
+            first: $first,
+            most: $most,
+            boundary: $boundary,
+            latch: $latch,
+            busy: $busy,
+            asleep: $asleep,
+            command: $command,
+        },)*]
+    };
 }
 
-// The row of an opcode; of one that is not listed, a row that says so.
-pub fn row_of(code: u8) -> Row
-    ensures { result ≡ row_of code }
+// The table of opcodes.
+const ROWS: [Row; 23] = rows! {
+    // code bytes first most boundary latch busy asleep command
+    0x03 1 4 ENDLESS false false false false Command::Reads(Source::Array),
+    0x0B 1 5 ENDLESS false false false false Command::Reads(Source::Array),
+    0x77 1 6 ENDLESS false false false false Command::Reads(Source::Register),
+    0x05 1 1 ENDLESS false false true false Command::Reads(Source::Status),
+    0x9F 1 1 4 false false false false Command::Reads(Source::Identity),
+    0x15 1 1 2 false false false false Command::Reads(Source::Legacy),
+    0x06 1 0 0 true false false false Command::Orders(Order::Enable),
+    0x04 1 0 0 true false false false Command::Orders(Order::Disable),
+    0xB9 1 0 0 true false false false Command::Orders(Order::DeepPowerDown),
+    0x79 1 0 0 true false false false Command::Orders(Order::UltraDeepPowerDown),
+    0xAB 1 0 0 false false false true Command::Orders(Order::Resume),
+    0xF0 2 0 0 true false true false Command::Orders(Order::Reset),
+    0x02 5 0 0 true true false false Command::Works(Work::Program),
+    0x81 4 0 0 true true false false Command::Works(Work::Erase(Region::Page)),
+    0x20 4 0 0 true true false false Command::Works(Work::Erase(Region::Small)),
+    0x52 4 0 0 true true false false Command::Works(Work::Erase(Region::Large)),
+    0xD8 4 0 0 true true false false Command::Works(Work::Erase(Region::Large)),
+    0x60 1 0 0 true true false false Command::Works(Work::Erase(Region::Chip)),
+    0xC7 1 0 0 true true false false Command::Works(Work::Erase(Region::Chip)),
+    0x62 1 0 0 true true false false Command::Works(Work::Erase(Region::Chip)),
+    0x9B 5 0 0 true true false false Command::Works(Work::Otp),
+    0x01 2 0 0 true true false false Command::Works(Work::WriteStatus),
+    0x31 2 0 0 true true false false Command::Works(Work::WriteStatusTwo),
+};
+
+// The row of an opcode that is not listed.
+fn unlisted(code: u8) -> Row
+    ensures { result ≡ unlisted code }
 {
-    let rows = ROWS;
-    let mut i = 0;
-    while i < 23 {
-        let row = rows[i];
-        if row / 0x1_0000_0000_0000 == code as u64 {
-            return Row {
-                code: code,
-                bytes: (row / 0x1000_0000_0000 % 16) as u8,
-                first: (row / 0x100_0000_0000 % 16) as u8,
-                most: (row / 0x100_0000 % 0x1_0000) as u16,
-                boundary: row / 0x10_0000 % 2 == 1,
-                latch: row / 0x1_0000 % 2 == 1,
-                busy: row / 0x1000 % 2 == 1,
-                asleep: row / 0x100 % 2 == 1,
-                command: command_of(row % 0x100),
-            };
-        }
-        i += 1;
-    }
     Row {
-        code: code,
+        code,
         bytes: 1,
         first: 0,
         most: 0,
@@ -162,4 +135,14 @@ pub fn row_of(code: u8) -> Row
         asleep: false,
         command: Command::Unlisted,
     }
+}
+
+// The row of an opcode; of one that is not listed, a row that says so.
+pub fn row_of(code: u8) -> Row
+    ensures { result ≡ row_of code }
+{
+    ROWS.iter()
+        .find(|row| row.code == code)
+        .copied()
+        .unwrap_or(unlisted(code))
 }

@@ -1,6 +1,6 @@
 -- What a frame does to the array and to the register: an operation on places, and the range that it lies in. Assumes
 -- nothing.
-use Rattle.std.specs.Prelude.{ℕ, ◌+◌, ◌*◌, ◌/◌, ◌%◌, List, drop}
+use Rattle.std.specs.Prelude.{ℕ, ◌≡◌, ◌<◌, ◌+◌, ◌*◌, ◌/◌, ◌%◌, List, drop}
 use Rattle.cells.specs.Each.{Cell}
 use Rattle.pages.specs.Page.{programmed}
 use Rattle.cells.specs.Range.{erased}
@@ -36,6 +36,10 @@ abbrev pub range_of : Operation → Range
 range_of none = nowhere
 range_of (program size page start sent) = span page (page + size)
 range_of (erase from to) = span from to
+
+-- an array of that size has bytes, and whole blocks of 64 KiB
+abbrev pub HasBlocks : ℕ → Type 0
+HasBlocks size = (0 < size) × (size % 65536 ≡ 0)
 
 -- the first place of the block of `width` bytes that holds a place: its low address bits are ignored
 abbrev pub block_of : ℕ → ℕ → ℕ

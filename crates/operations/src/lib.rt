@@ -1,9 +1,11 @@
-// The operations of a frame on the array and the register, and lists of them. It stands below the part and requires the right lengths.
+// The operations of a frame on the array and the register, and lists of them. It stands below the part and requires the
+// right lengths.
 #![tactic(auto)]
 
-ghost use Rattle.std.specs.Prelude.{◌≡◌, ◌<◌, ◌%◌, length};
+ghost use Rattle.std.specs.Prelude.{◌≡◌, ◌<◌, ◌+◌, ◌^◌, length};
 ghost use Rattle.cells.specs.Each.{each};
-ghost use Rattle.operations.specs.Operations.{cell_of, width_of, on_array, on_register, range_of};
+ghost use Rattle.operations.specs.Operations.{HasBlocks, cell_of, block_of, span, width_of};
+ghost use Rattle.operations.specs.Operations.{on_array, on_register, range_of};
 ghost use Rattle.operations.specs.Operations as spec;
 
 use calls::address_of;
@@ -13,8 +15,9 @@ use judge::Action;
 use opcodes::Region;
 use pages::program_page;
 
-// The places of the array from `from` up to, not including, `to`.
-#[derive(Clone, Copy)]
+// The places of the array from `from` up to, not including, `to`. The library's `Range<usize>` is not Copy, and an
+// answer that holds this one is.
+#[derive(Clone, Copy, Debug, PartialEq, Eq)]
 pub struct Range {
     pub from: usize,
     pub to: usize,
@@ -27,19 +30,28 @@ pub fn nowhere() -> Range
     Range { from: 0, to: 0 }
 }
 
+// The block of `width` bytes that holds the place: the place's low address bits are ignored.
+fn block(width: usize, place: usize) -> Range
+    requires { (0 < width) × (block_of width place + width < 2 ^ 64) }
+    ensures { result ≡ span (block_of width place) (block_of width place + width) }
+{
+    let from = place / width * width;
+    Range {
+        from,
+        to: from + width,
+    }
+}
+
 // Programs the page that the address names, and says which it is.
 fn program(array: &mut [u8], input: &[u8]) -> Range
-    requires { (0 < length array.old) × (length array.old % 65536 ≡ 0) }
+    requires { HasBlocks (length array.old) }
     ensures value { result ≡ range_of (on_array Action.Program (length array.old) input.now) }
     ensures array_after { array.new ≡ each (cell_of (on_array Action.Program (length array.old) input.now)) array.old }
 {
     let place = wrapped(address_of(input), array.len());
-    let from = place / 256 * 256;
-    program_page(array, 256, from, place % 256, input, 4);
-    Range {
-        from,
-        to: from + 256,
-    }
+    let page = block(256, place);
+    program_page(array, 256, page.from, place % 256, input, 4);
+    page
 }
 
 // Programs the user's bytes of the register.
@@ -63,36 +75,33 @@ fn width_of(region: Region, size: usize) -> usize
 }
 
 // Erases the block of the region's width that the address names, and says which it is.
+#[tactic(auto, using(crate::proofs::Blocks::block_inside))]
 fn erase(array: &mut [u8], region: Region, input: &[u8]) -> Range
-    requires { (0 < length array.old) × (length array.old % 65536 ≡ 0) }
+    requires { HasBlocks (length array.old) }
     ensures value { result ≡ range_of (on_array (Action.Erase region) (length array.old) input.now) }
     ensures array_after { array.new ≡ each (cell_of (on_array (Action.Erase region) (length array.old) input.now)) array.old }
 {
     let size = array.len();
-    let place = wrapped(address_of(input), size);
-    let width = width_of(region, size);
-    let from = place / width * width;
-    let to = from + width;
-    fill(array, from, to, 255);
-    Range { from, to }
+    let erased = block(width_of(region, size), wrapped(address_of(input), size));
+    fill(array, erased.from, erased.to, 255);
+    erased
 }
 
 // What is to be done with the memories is done. The answer is the range of the array that it lies in.
 #[tactic(auto, using(cells::proofs::Places::each_same))]
 pub fn carry_out(action: Action, array: &mut [u8], register: &mut [u8], input: &[u8]) -> Range
-    requires { (0 < length array.old) × (length array.old % 65536 ≡ 0) × (length register.old ≡ 128) }
+    requires { HasBlocks (length array.old) × (length register.old ≡ 128) }
     ensures value { result ≡ range_of (on_array action (length array.old) input.now) }
     ensures array_after { array.new ≡ each (cell_of (on_array action (length array.old) input.now)) array.old }
     ensures register_after { register.new ≡ each (cell_of (on_register action input.now)) register.old }
 {
     match action {
-        Action::Still => nowhere(),
-        Action::Drive(_) => nowhere(),
         Action::Program => program(array, input),
         Action::Erase(region) => erase(array, region, input),
         Action::Otp => {
             program_once(register, input);
             nowhere()
         }
+        Action::Still | Action::Drive(_) => nowhere(),
     }
 }

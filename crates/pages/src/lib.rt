@@ -6,23 +6,18 @@ ghost use Rattle.std.specs.Prelude.{◌≡◌, ◌+◌, ◌≤◌, ◌<◌, leng
 ghost use Rattle.cells.specs.Each.{each};
 ghost use Rattle.pages.specs.Page.{loaded, anded_in, programmed};
 
-use cells::copy::copy_run;
-use numbers::lesser;
-
 // The data is ANDed into the memory from `at` on, a byte at a time.
 fn and_each(memory: &mut [u8], at: usize, sent: &[u8])
     requires { at + length sent.now ≤ length memory.old }
     ensures { memory.new ≡ each (anded_in at sent.now) memory.old }
 {
-    let end = at + sent.len();
-    let mut i = at;
-    while i < end {
-        memory[i] = memory[i] & sent[i - at];
-        i += 1;
+    for i in at..at + sent.len() {
+        memory[i] &= sent[i - at];
     }
 }
 
-// The same for four bytes, without a loop: most programs have four.
+// The same for four bytes, kept beside it for its speed: most programs have four, and the loop is slower for these
+// (docs/DECISIONS.md, 106).
 fn and_four(memory: &mut [u8], at: usize, sent: &[u8])
     requires { (at + 4 ≤ length memory.old) × (length sent.now ≡ 4) }
     ensures { memory.new ≡ each (anded_in at sent.now) memory.old }
@@ -68,13 +63,10 @@ fn load(buffer: &mut [u8], size: usize, start: usize, sent: &[u8])
     requires { (size ≤ length buffer.old) × (start < size) }
     ensures { buffer.new ≡ each (loaded size start sent.now) buffer.old }
 {
-    let mut at = 0;
-    let mut next = start;
-    while at < sent.len() {
-        let n = lesser(sent.len() - at, size - next);
-        copy_run(buffer, next, next + n, sent, at);
-        at += n;
-        next = 0;
+    let (straight, rest) = sent.split_at(sent.len().min(size - start));
+    buffer[start..start + straight.len()].copy_from_slice(straight);
+    for part in rest.chunks(size) {
+        buffer[..part.len()].copy_from_slice(part);
     }
 }
 
@@ -103,7 +95,7 @@ pub fn program_page(
     ensures { memory.new
         ≡ each (programmed size page start (drop from source.now)) memory.old }
 {
-    let sent = &source[lesser(from, source.len())..];
+    let sent = &source[from.min(source.len())..];
     if size <= sent.len() {
         program_buffered(memory, size, page, start, sent);
         return;

@@ -88,7 +88,8 @@ module _ (d : Device) (s : Settings) (f : Facts) where
 
   kept : Kept d f (judged d s f)
   kept =
-      each_answer d s f (Kept d f) (λ some. (none, λ n. uncontrolled)) (λ some. (none, λ n. uncontrolled))
+      each_answer d s f (Kept d f) (λ cause first. (none, λ n. uncontrolled))
+      (λ cause first. (none, λ n. uncontrolled))
       (λ u. (none, λ n. asleep (ultra_sleeps d.mode u))) (λ e. (none, λ n. asleep (deep_sleeps d.mode e)))
       (λ source e. (none, λ n. uncontrolled)) of_order of_work
 

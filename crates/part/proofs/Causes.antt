@@ -3,6 +3,7 @@ use mathlib.Core.Bool.{Bool, true, false, true≢false, not, ◌&&◌, ◌||◌}
 use mathlib.Core.Path.{◌≡◌, refl, sym, ap, ◌∙◌}
 use lib.Dec.{eqb}
 use lib.Text.{eqt}
+use Rattle.std.specs.Prelude.{Some, None, is_none}
 use Rattle.opcodes.specs.Rows.{row_of}
 use Rattle.opcodes.specs.Kinds.{means_array}
 use Rattle.opcodes.specs.declared.Order.{Order}
@@ -13,11 +14,11 @@ use Rattle.settings.specs.declared.Settings.{Settings}
 use Rattle.judge.specs.declared.Facts.{Facts}
 use Rattle.judge.specs.declared.Judged.{Judged}
 use Rattle.judge.specs.declared.Cause.{Cause}
-use Rattle.judge.specs.declared.Cause.TheVariants.{None, TooFewBits, Asleep, Busy, UnknownOpcode, LatchClear}
+use Rattle.judge.specs.declared.Cause.TheVariants.{TooFewBits, Asleep, Busy, UnknownOpcode, LatchClear}
 use Rattle.judge.specs.declared.Cause.TheVariants.{ResetUnconfirmed, OffBoundary, Incomplete, Protected, Locked}
 use Rattle.judge.specs.declared.Cause.TheVariants.{AlreadyProgrammed, AlreadyAwake}
 use Rattle.judge.specs.declared.Outcome.{Outcome}
-use Rattle.judge.specs.Causes.{cause_words, is_none, causes, IsFirst, cause_of}
+use Rattle.judge.specs.Causes.{cause_words, words_in, causes, IsFirst, cause_of}
 use Rattle.judge.specs.Judging.{ordered, carried, judged}
 use Rattle.judge.specs.Bare.{uncaused, bare}
 use Rattle.judge.proofs.Causes.{hindered}
@@ -31,21 +32,20 @@ use Rattle.part.specs.Cause.{is_stopped, holds_of, cause_for}
 use Rattle.part.specs.Effect.{takes_effect}
 use Rattle.part.proofs.Answers.{refusal_is}
 
--- a cause of the list is not called none
-some_words : (cause : Cause) → is_none cause ≡ false → eqt (cause_words cause) "none" ≡ false
-some_words None n = absurd (true≢false n)
-some_words TooFewBits n = refl
-some_words Asleep n = refl
-some_words Busy n = refl
-some_words UnknownOpcode n = refl
-some_words LatchClear n = refl
-some_words ResetUnconfirmed n = refl
-some_words OffBoundary n = refl
-some_words Incomplete n = refl
-some_words Protected n = refl
-some_words Locked n = refl
-some_words AlreadyProgrammed n = refl
-some_words AlreadyAwake n = refl
+-- no cause is called none
+some_words : (cause : Cause) → eqt (cause_words cause) "none" ≡ false
+some_words TooFewBits = refl
+some_words Asleep = refl
+some_words Busy = refl
+some_words UnknownOpcode = refl
+some_words LatchClear = refl
+some_words ResetUnconfirmed = refl
+some_words OffBoundary = refl
+some_words Incomplete = refl
+some_words Protected = refl
+some_words Locked = refl
+some_words AlreadyProgrammed = refl
+some_words AlreadyAwake = refl
 
 abbrev stopping : Outcome → Bool
 stopping o = eqt (word_of o) "nothing" || eqt (word_of o) "aborted"
@@ -53,14 +53,14 @@ stopping o = eqt (word_of o) "nothing" || eqt (word_of o) "aborted"
 -- what is nothing or aborted carries the first cause that holds, and all else none
 pub record Carries (d : Device) (f : Facts) (o : Outcome) : Type 0 where
   pub first : stopping o ≡ true
-      → (cause_in o ≡ cause_of (row_of f.code) d f) × (is_none (cause_of (row_of f.code) d f) ≡ false)
-  pub called_none : eqt (cause_words (cause_in o)) "none" ≡ not (stopping o)
+      → (cause : Cause) × (cause_in o ≡ Some cause) × (cause_of (row_of f.code) d f ≡ Some cause)
+  pub called_none : eqt (words_in (cause_in o)) "none" ≡ not (stopping o)
 
 carries : (d : Device) (s : Settings) (f : Facts) → Carries d f (judged d s f).outcome
 carries d s f =
     each_answer d s f (λ (j : Judged). Carries d f j.outcome)
-    (λ some. record { first = λ t. (refl, some); called_none = some_words (cause_of (row_of f.code) d f) some })
-    (λ some. record { first = λ t. (refl, some); called_none = some_words (cause_of (row_of f.code) d f) some })
+    (λ cause e. record { first = λ t. (cause, refl, e); called_none = some_words cause })
+    (λ cause e. record { first = λ t. (cause, refl, e); called_none = some_words cause })
     (λ u. controlled) (λ e. controlled) (λ source e. unstopped Outcome.Read refl refl) (λ order e h. of_order order)
     (λ work e h. of_work work)
   where
@@ -94,11 +94,12 @@ module _ (c : Call) (m : Lent) where
   carrying = carries (risen c) c.settings (facts_of c)
 
   pub first_cause : (frame c m).reply.refusal ≡ 0 → is_stopped (frame c m).reply ≡ true
-      → ((frame c m).reply.cause ≡ cause_words (cause_for c)) × IsFirst (holds_of c) causes (cause_for c)
+      → (cause : Cause) × ((frame c m).reply.cause ≡ cause_words cause) × (cause_for c ≡ Some cause) ×
+      IsFirst (holds_of c) causes cause
   unfolding frame replied
   first_cause e = rw (sym (refusal_is c (lengths_of c m)) ∙ e) (λ t.
-      let told = carrying.first t in
-      (ap cause_words told.0, hindered (row_of (facts_of c).code) (risen c) (facts_of c) told.1))
+      let (cause, told, first) = carrying.first t in
+      (cause, ap words_in told, first, hindered (row_of (facts_of c).code) (risen c) (facts_of c) cause first))
 
   pub none_exactly : eqt (frame c m).reply.cause "none"
       ≡ not (eqb (frame c m).reply.refusal 0 && is_stopped (frame c m).reply)

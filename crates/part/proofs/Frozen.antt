@@ -6,7 +6,7 @@ use native.Mathlib.Omega.{arith}
 use lib.Dec.{eqb}
 use Rattle.device.specs.declared.Device.{Device}
 use Rattle.judge.specs.Judging.{judged}
-use Rattle.refusals.specs.Refusals.{number_of}
+use Rattle.refusals.specs.Refusals.{number_in}
 use Rattle.calls.specs.Refusal.{bytes_for, refusal_of}
 use Rattle.output.specs.Time.{standing}
 use Rattle.part.specs.Frame.{Call, Lent, Result, lengths_of, timed, facts_of, covered_by, answered, refused, lent_by}
@@ -28,7 +28,7 @@ module _ (c : Call) (m : Lent) where
       }
 
   abbrev numbered : ℕ → ℕ
-  numbered pace = number_of (refusal_of c.device c.settings (paced pace c.signals) (lengths_of c m))
+  numbered pace = number_in (refusal_of c.device c.settings (paced pace c.signals) (lengths_of c m))
 
   pub takes_no_time : c.signals.pace ≡ 0 → frame c m ≡ frozen c m
   unfolding frame replied number_for judged_of

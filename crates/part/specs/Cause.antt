@@ -1,5 +1,5 @@
 -- Why nothing came of a frame, or why it was aborted: request R-5. Assumes nothing.
-use Rattle.std.specs.Prelude.{Bool, ◌||◌}
+use Rattle.std.specs.Prelude.{Bool, ◌||◌, Option}
 use lib.Text.{eqt}
 use Rattle.opcodes.specs.Rows.{row_of}
 use Rattle.judge.specs.declared.Cause.{Cause}
@@ -16,5 +16,5 @@ abbrev pub holds_of : Call → Cause → Bool
 holds_of c cause = holds cause (row_of (facts_of c).code) (risen c) (facts_of c)
 
 -- the first that holds
-abbrev pub cause_for : Call → Cause
+abbrev pub cause_for : Call → Option Cause
 cause_for c = cause_of (row_of (facts_of c).code) (risen c) (facts_of c)

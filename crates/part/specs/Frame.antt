@@ -1,6 +1,6 @@
 -- One call, one chip-select frame: what comes back and what the lent memories then hold, from what is handed in.
 -- Assumes nothing.
-use Rattle.std.specs.Prelude.{ℕ, Bool, cond, List, ◌≡◌, eqb, length, get_or}
+use Rattle.std.specs.Prelude.{ℕ, Bool, cond, List, ◌≡◌, eqb, length, get_or, Result as OneOf, Ok, Err}
 use Prim.Native.String.{String}
 use Rattle.cells.specs.Each.{each, stored}
 use Rattle.cells.specs.Range.{range}
@@ -8,17 +8,16 @@ use Rattle.device.specs.declared.Device.{Device}
 use Rattle.settings.specs.declared.Settings.{Settings}
 use Rattle.judge.specs.declared.Facts.{Facts}
 use Rattle.judge.specs.declared.Judged.{Judged}
-use Rattle.judge.specs.declared.Cause.TheVariants.{None}
-use Rattle.judge.specs.declared.Outcome.{Outcome}
 use Rattle.device.specs.Device.{is_busy, passed}
-use Rattle.judge.specs.Causes.{cause_words}
+use Rattle.judge.specs.Causes.{words_in}
 use Rattle.judge.specs.Judging.{judged}
 use Rattle.calls.specs.declared.Lengths.{Lengths}
 use Rattle.refusals.specs.declared.Refusal.{Refusal}
-use Rattle.refusals.specs.Refusals.{number_of}
+use Rattle.refusals.specs.Refusals.{number_of, number_in}
 use Rattle.calls.specs.Address.{address_of}
 use Rattle.calls.specs.Refusal.{bytes_for, refusal_of}
 use Rattle.calls.specs.declared.Signals.{Signals}
+use Rattle.calls.specs.declared as handed
 use Rattle.part.specs.declared.Answer.{Answer}
 use Rattle.part.specs.Words.{word_of, cause_in}
 use Rattle.output.specs.Time.{standing}
@@ -73,7 +72,7 @@ lengths_of c m =
 
 -- the number of its refusal; 0 if there is none
 unfoldable pub number_for : Call → Lengths → ℕ
-number_for c lengths = number_of (refusal_of c.device c.settings c.signals lengths)
+number_for c lengths = number_in (refusal_of c.device c.settings c.signals lengths)
 
 -- time passes first: the record at the frame's first bit
 abbrev pub timed : Call → Device
@@ -117,7 +116,7 @@ answered j covered =
     record {
       refusal = 0;
       outcome = word_of j.outcome;
-      cause = cause_words (cause_in j.outcome);
+      cause = words_in (cause_in j.outcome);
       first = j.first;
       driven = j.driven;
       covered = covered;
@@ -182,33 +181,34 @@ frame c m =
       lent = cond (eqb (number_for c (lengths_of c m)) 0) (lent_after c m) m;
     }
 
--- an answer of the code, by the papers' number and words
-abbrev pub reply_of : Answer → Reply
-reply_of a =
+-- what the code is handed and lent
+abbrev pub call_of : handed.Call.Call → Call
+call_of c = call c.device c.settings c.input.now c.signals
+
+abbrev pub lent_of : handed.Lent.Lent → Lent
+lent_of m = lent m.array.now m.register.now m.output.now
+
+-- what comes of a call of the code: its answer, or why it is refused
+abbrev pub Came : Type 0
+Came = OneOf Answer Refusal
+
+-- by the papers' number and words; a refused call leaves the record d with its caller
+abbrev pub reply_of : Device → Came → Reply
+reply_of d (Ok a) =
     record {
-      refusal = number_of a.refusal;
+      refusal = 0;
       outcome = word_of a.outcome;
-      cause = cause_words (cause_in a.outcome);
+      cause = words_in (cause_in a.outcome);
       first = a.first;
       driven = a.driven;
       covered = a.covered;
       device = a.device;
     }
+reply_of d (Err refusal) = refused (number_of refusal) d
 
-abbrev pub result_of : Answer → Lent → Result
-result_of a m = record { reply = reply_of a; lent = m }
+abbrev pub result_of : Device → Came → Lent → Result
+result_of d came m = record { reply = reply_of d came; lent = m }
 
-abbrev pub refusing : Refusal → Device → Answer
-refusing refusal d =
-    record {
-      refusal = refusal;
-      outcome = Outcome.Nothing None;
-      first = 0;
-      driven = 0;
-      covered = nowhere;
-      device = d;
-    }
-
--- the contract of a call: its answer and what it leaves of the lent memories are the frame's
-abbrev pub Meets : Call → Lent → Answer → Lent → Type 0
-Meets c before a after = result_of a after ≡ frame c before
+-- the contract of a call: what comes of it and what it leaves of the lent memories are the frame's
+abbrev pub Meets : Call → Lent → Came → Lent → Type 0
+Meets c before came after = result_of c.device came after ≡ frame c before

@@ -7,7 +7,7 @@ use Rattle.judge.specs.Judging.{judged}
 use Rattle.calls.specs.declared.Lengths.{Lengths}
 use Rattle.calls.specs.declared.Signals.{Signals}
 use Rattle.calls.specs.Refusal.{refusal_of}
-use Rattle.refusals.specs.Refusals.{number_of}
+use Rattle.refusals.specs.Refusals.{number_in}
 use Rattle.part.specs.Frame.{Call, Lent, Result, lengths_of, timed, facts_of, covered_by, answered, refused, lent_by}
 
 -- the signals, with so many ticks per byte position
@@ -16,7 +16,7 @@ paced pace s = record { bits = s.bits; wp = s.wp; elapsed = s.elapsed; pace = pa
 
 -- refusals 1 to 7
 abbrev frozen_number : Call → Lengths → ℕ
-frozen_number c lengths = number_of (refusal_of c.device c.settings (paced 0 c.signals) lengths)
+frozen_number c lengths = number_in (refusal_of c.device c.settings (paced 0 c.signals) lengths)
 
 abbrev frozen_judged : Call → Judged
 frozen_judged c = judged (timed c) c.settings (facts_of c)

@@ -1,19 +1,19 @@
 -- Demands 1 and 2, sentence by sentence: what holds of any call. To read it: c is a call, m and n are lent memories, a
--- is an answer, k is a place of the array. Assumes nothing.
-use Rattle.std.specs.Prelude.{ℕ, true, false, not, ◌&&◌, ◌≢◌, ◌≡◌, ltb, eqb, get_or}
+-- is what comes of a call, k is a place of the array. Assumes nothing.
+use Rattle.std.specs.Prelude.{ℕ, true, false, not, ◌&&◌, ◌≢◌, ◌≡◌, ltb, eqb, get_or, Some, is_none}
 use lib.Text.{eqt}
 use Rattle.cells.specs.Each.{each}
 use Rattle.cells.specs.Range.{range}
 use Rattle.opcodes.specs.Rows.{row_of}
 use Rattle.opcodes.specs.Kinds.{means_array}
-use Rattle.judge.specs.Causes.{cause_words, is_none, causes, IsFirst}
+use Rattle.judge.specs.Causes.{cause_words, causes, IsFirst}
+use Rattle.judge.specs.declared.Cause.{Cause}
 use Rattle.judge.specs.Bare.{uncaused, bare}
-use Rattle.refusals.specs.Refusals.{number_of}
+use Rattle.refusals.specs.Refusals.{number_in}
 use Rattle.calls.specs.Refusal.{refusal_of}
 use Rattle.operations.specs.Operations.{cell_of}
-use Rattle.part.specs.declared.Answer.{Answer}
 use Rattle.part.specs.Frame.{Call, Lent, lengths_of, number_for, risen, facts_of, judged_of, refused, frame}
-use Rattle.part.specs.Frame.{Meets}
+use Rattle.part.specs.Frame.{Came, Meets}
 use Rattle.part.specs.Cause.{is_stopped, holds_of, cause_for}
 use Rattle.part.specs.Effect.{takes_effect, operation_of}
 use Rattle.part.specs.Busy.{lasts_for, busy_after}
@@ -21,12 +21,12 @@ use Rattle.part.specs.Frozen.{frozen}
 
 pub record Promises : Type 0 where
   -- Any bytes, bit count, level, ticks and lent memory may be handed in: the contract of a call admits one answer,
-  pub one_answer : (c : Call) (m : Lent) (a b : Answer) (n o : Lent) → Meets c m a n → Meets c m b o → (a ≡ b) × (n ≡ o)
+  pub one_answer : (c : Call) (m : Lent) (a b : Came) (n o : Lent) → Meets c m a n → Meets c m b o → (a ≡ b) × (n ≡ o)
   -- and there is one.
-  pub some_answer : (c : Call) (m : Lent) → (a : Answer) × (n : Lent) × Meets c m a n
+  pub some_answer : (c : Call) (m : Lent) → (a : Came) × (n : Lent) × Meets c m a n
   -- A refusal is given exactly when the papers' list says, the lowest number first, and is 0 if none applies.
   pub refused_exactly : (c : Call) (m : Lent) → (frame c m).reply.refusal
-      ≡ number_of (refusal_of c.device c.settings c.signals (lengths_of c m))
+      ≡ number_in (refusal_of c.device c.settings c.signals (lengths_of c m))
   -- A refused call reports its number and leaves record, array, security register and output buffer unchanged.
   pub refused_leaves : (c : Call) (m : Lent) → (frame c m).reply.refusal ≢ 0
       → frame c m ≡ record { reply = refused (frame c m).reply.refusal c.device; lent = m }
@@ -52,7 +52,8 @@ pub record Promises : Type 0 where
   -- An accepted call of which nothing comes, or which is aborted, has one cause: the first of the request's list that
   -- holds.
   pub first_cause : (c : Call) (m : Lent) → (frame c m).reply.refusal ≡ 0 → is_stopped (frame c m).reply ≡ true
-      → ((frame c m).reply.cause ≡ cause_words (cause_for c)) × IsFirst (holds_of c) causes (cause_for c)
+      → (cause : Cause) × ((frame c m).reply.cause ≡ cause_words cause) × (cause_for c ≡ Some cause) ×
+      IsFirst (holds_of c) causes cause
   -- A refused call has none, nor has a read, a control or what is begun; every other has one.
   pub none_exactly : (c : Call) (m : Lent) → eqt (frame c m).reply.cause "none"
       ≡ not (eqb (frame c m).reply.refusal 0 && is_stopped (frame c m).reply)

@@ -2,7 +2,7 @@
 -- `cause_words` and `cause_number` of `judge`, the refusals' numbers `number_of` of `refusals`.) Assumes nothing.
 use Prim.Native.String.{String}
 use Rattle.judge.specs.declared.Cause.{Cause}
-use Rattle.judge.specs.declared.Cause.TheVariants.{None}
+use Rattle.std.specs.Prelude.{Option, Some, None}
 use Rattle.judge.specs.declared.Outcome.{Outcome}
 
 abbrev pub word_of : Outcome → String
@@ -12,9 +12,9 @@ word_of Outcome.Control = "control"
 word_of (Outcome.Aborted cause) = "aborted"
 word_of Outcome.Begun = "begun"
 
-abbrev pub cause_in : Outcome → Cause
-cause_in (Outcome.Nothing cause) = cause
+abbrev pub cause_in : Outcome → Option Cause
+cause_in (Outcome.Nothing cause) = Some cause
 cause_in Outcome.Read = None
 cause_in Outcome.Control = None
-cause_in (Outcome.Aborted cause) = cause
+cause_in (Outcome.Aborted cause) = Some cause
 cause_in Outcome.Begun = None

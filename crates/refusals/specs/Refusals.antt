@@ -1,10 +1,8 @@
 -- The numbers of the refusals, each as the papers give it. Assumes nothing.
-use Rattle.std.specs.Prelude.{ℕ}
+use Rattle.std.specs.Prelude.{ℕ, Result, Ok, Err}
 use Rattle.refusals.specs.declared.Refusal.{Refusal}
 
--- 0 says that there is none
 abbrev pub number_of : Refusal → ℕ
-number_of Refusal.Accepted = 0
 number_of Refusal.ArrayLength = 1
 number_of Refusal.RegisterLength = 2
 number_of Refusal.InputLength = 3
@@ -21,3 +19,8 @@ number_of Refusal.HexOutside = 15
 number_of Refusal.HexEnd = 16
 number_of Refusal.HexRoom = 17
 number_of Refusal.HexLength = 18
+
+-- of what came of a call, a report or a text: 0 says that it is not refused
+abbrev pub number_in : {A : Type 0} → Result A Refusal → ℕ
+number_in (Ok a) = 0
+number_in (Err refusal) = number_of refusal

@@ -5,68 +5,48 @@
 ghost use Rattle.std.specs.Prelude.{◌≡◌};
 ghost use Rattle.refusals.specs.Refusals.{number_of};
 
-// Why a call, a report or a text is refused, or that it is not.
-#[derive(Clone, Copy)]
+// Why a call, a report or a text is refused, each with its number in the table.
+#[derive(Clone, Copy, Debug, PartialEq, Eq)]
 pub enum Refusal {
-    // it is not refused
-    Accepted,
     // the array has none of the sizes
-    ArrayLength,
+    ArrayLength = 1,
     // the security register does not have 128 bytes
-    RegisterLength,
+    RegisterLength = 2,
     // the frame is too long
-    InputLength,
+    InputLength = 3,
     // the bits clocked are not those of the input bytes
-    BitCount,
+    BitCount = 4,
     // the output buffer is shorter than the frame
-    OutputLength,
+    OutputLength = 5,
     // no part could be in the state of the record
-    Record,
+    Record = 6,
     // a duration is 0 or too long
-    Duration,
+    Duration = 7,
     // a byte position takes too many ticks
-    Pace,
+    Pace = 8,
     // there is no such account, or the ledger is full
-    Account,
+    Account = 9,
     // a HEX record is malformed
-    HexRecord,
+    HexRecord = 12,
     // a HEX record's bytes do not add up to 0
-    HexChecksum,
+    HexChecksum = 13,
     // a HEX record is of another type
-    HexType,
+    HexType = 14,
     // HEX data lies outside the array or its 64 KiB
-    HexOutside,
+    HexOutside = 15,
     // the HEX end record is missing, or text follows it
-    HexEnd,
+    HexEnd = 16,
     // the text does not fit into its room
-    HexRoom,
+    HexRoom = 17,
     // the array of a HEX text has none of the sizes
-    HexLength,
+    HexLength = 18,
 }
 
 impl Refusal {
-    // Its number in the table; 0 if there is none.
+    // Its number in the table.
     pub fn number(self) -> u8
         ensures { result ≡ number_of self }
     {
-        match self {
-            Refusal::Accepted => 0,
-            Refusal::ArrayLength => 1,
-            Refusal::RegisterLength => 2,
-            Refusal::InputLength => 3,
-            Refusal::BitCount => 4,
-            Refusal::OutputLength => 5,
-            Refusal::Record => 6,
-            Refusal::Duration => 7,
-            Refusal::Pace => 8,
-            Refusal::Account => 9,
-            Refusal::HexRecord => 12,
-            Refusal::HexChecksum => 13,
-            Refusal::HexType => 14,
-            Refusal::HexOutside => 15,
-            Refusal::HexEnd => 16,
-            Refusal::HexRoom => 17,
-            Refusal::HexLength => 18,
-        }
+        self as u8
     }
 }

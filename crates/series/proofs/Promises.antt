@@ -29,7 +29,7 @@ use Rattle.series.specs.Promises.{Promises, effects, as_refused}
 use Rattle.series.proofs.Lending.{lent_all, returned_all}
 use Rattle.operations.proofs.Applied.{applied_each, since_the_last_erase, programs_exchanged, operation_twice}
 use Rattle.series.proofs.Turns.{effect_begun, refused_reply, refused_effect, sound_series, each_works}
-use Rattle.series.proofs.Steps.{reply_is, array_is, register_is, refused_result, refused_left}
+use Rattle.series.proofs.Steps.{met, reply_is, array_is, register_is, refused_result, refused_left}
 
 abbrev reply_in : Result → Reply
 reply_in r = r.reply
@@ -46,10 +46,14 @@ effect_in s t = effect_of s.turn t.device
 going_on : (s : Step) (t : State) → (next s t).device ≡ onward s.turn t.device
 going_on s t = ap (λ (r : Reply). r.device) (reply_is s t)
 
--- an answer that meets the contract of the code
+-- a call that meets the contract of the code
 made : Step → State → Made
 made s t =
-    record { answer = answer_of (call_of s.turn t.device) (part.lengths_of (call_of s.turn t.device) (lent_to s t)); lent = (result_of s t).lent }
+    record {
+      device = t.device;
+      answer = answer_of (call_of s.turn t.device) (part.lengths_of (call_of s.turn t.device) (lent_to s t));
+      lent = (result_of s t).lent;
+    }
 
 meets : (s : Step) (t : State) → made_of (made s t) ≡ result_of s t
 unfolding made
@@ -176,7 +180,9 @@ promises =
     record {
       one_after_the_other = λ t ts d c l e f. rw (e, f) (one_gathered onward (run.one reply_to) t ts d, one_end onward t ts d, one_gathered onward effect_of t ts d);
       frame_by_frame = λ s ss t c e. rw e (one_gathered next (run.one result_of) s ss t, one_end next s ss t);
-      call_by_call = λ s ss t u a rest c e r. rw e (one_ran result_of left made_of s ss t u a rest r);
+      call_by_call =
+          λ s ss t u a rest c e r. let one = one_ran result_of left made_of s ss t u a rest r in
+          rw e (met (call_of s.turn t.device) (lent_to s t) a.device a.answer a.lent one.0, one.1);
       lent_whole =
           λ s t a b o. rw (lent_all s.turn.array t.array s.behind.array a, lent_all s.turn.register t.register s.behind.register b, lent_all s.turn.output s.buffer s.behind.output o);
       left_whole = λ r t a b. rw (returned_all r.lent.array t.array a, returned_all r.lent.register t.register b);

@@ -4,18 +4,22 @@ use Prim.Native.Nat.{ℕ, ◌≤◌}
 use mathlib.Core.Bool.{Bool, true, false, cond}
 use mathlib.Core.List.{List, [], ◌∷◌}
 use mathlib.Core.Logic.{◌≢◌}
-use mathlib.Core.Path.{◌≡◌, refl, ap, ◌∙◌}
+use mathlib.Core.Path.{◌≡◌, refl, sym, ap, ◌∙◌}
 use native.Mathlib.Omega.{arith}
 use borrow.Author.Tests.{eqb-true, ne_eqb}
 use lib.Dec.{eqb}
 use Rattle.cells.specs.Each.{each}
+use Rattle.std.specs.Prelude.{Ok, Err}
 use Rattle.opcodes.specs.Rows.{row_of}
+use Rattle.device.specs.declared.Device.{Device}
 use Rattle.judge.specs.Begins.{asks_for}
+use Rattle.refusals.proofs.Numbers.{never_0}
 use Rattle.operations.specs.Operations.{Operation, cell_of, on_array, on_register}
-use Rattle.part.specs.Frame.{Call, Lent, facts_of, judged_of, number_for, replied, frame}
+use Rattle.part.specs.Frame.{Call, Lent, Result, Came, Meets, facts_of, judged_of, number_for, replied, frame}
 use Rattle.part.specs.Frame as part
 use Rattle.part.specs.Effect.{takes_effect, operation_of}
 use Rattle.operations.proofs.Blocks.{operation_inside, once_inside}
+use Rattle.part.proofs.Answers.{refused_leaves}
 use Rattle.part.proofs.Effects.{only_then, then_always}
 use Rattle.series.specs.Turns.{call_of, lengths_of, reply_to, effect_of, done_of, once_of}
 use Rattle.series.specs.Series.{Step, State, returned, lent_to, result_of, left}
@@ -23,6 +27,18 @@ use Rattle.operations.specs.Bytes.{applied}
 use Rattle.series.specs.Promises.{as_refused}
 use Rattle.series.proofs.Lending.{length-lent, returned_each, returned_same}
 use Rattle.series.proofs.Turns.{refusal_is, refused_reply, accepted_turn, effect_accepted}
+
+-- What came of a call meets its contract if, with the record that it was handed, it is the frame's result. From a
+-- refused call the frame returns the record of the call, so it was handed that one.
+pub met : (c : Call) (m : Lent) (d : Device) (came : Came) (after : Lent) → part.result_of d came after ≡ frame c m
+    → Meets c m came after
+met c m d (Ok a) after e = e
+met c m d (Err refusal) after e = ap (λ (d : Device). part.result_of d (Err refusal) after) (sym kept) ∙ e
+  where
+    kept : d ≡ c.device
+    kept =
+        ap (λ (r : Result). r.reply.device) e ∙
+        (refused_leaves c m (λ z. never_0 refusal (ap (λ (r : Result). r.reply.refusal) e ∙ z))).0
 
 module _ (s : Step) (t : State) where
   abbrev c : Call

@@ -4,8 +4,7 @@ use Rattle.runs.specs.Run as run
 use Rattle.cells.specs.Each.{each, stored}
 use Rattle.cells.specs.Range.{range}
 use Rattle.device.specs.declared.Device.{Device}
-use Rattle.part.specs.declared.Answer.{Answer}
-use Rattle.part.specs.Frame.{Lent, Result, lent, frame}
+use Rattle.part.specs.Frame.{Lent, Result, Came, lent, frame}
 use Rattle.part.specs.Frame as part
 use Rattle.series.specs.Turns.{Turn, call_of}
 
@@ -68,13 +67,15 @@ results ss t = run.outputs next result_of ss t
 abbrev pub end : List Step → State → State
 end ss t = run.end next ss t
 
--- A call as the code made it: its answer, and what it left of the memories that it was lent.
+-- A call as the code made it: the record that it was handed, which its caller keeps if it is refused; what came of it;
+-- and what it left of the memories that it was lent.
 pub record Made : Type 0 where
-  pub answer : Answer
+  pub device : Device
+  pub answer : Came
   pub lent : Lent
 
 abbrev pub made_of : Made → Result
-made_of c = part.result_of c.answer c.lent
+made_of c = part.result_of c.device c.answer c.lent
 
 -- The code ran the series and left the last state: each call meets the contract of `part::frame` with the record that
 -- the call before it returned and the memories that it left.

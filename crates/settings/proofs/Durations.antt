@@ -1,11 +1,18 @@
--- What settings that are not refused say of each duration. Assumes nothing.
+-- What the test of all durations says of each, and what settings that are not refused say of each. Assumes nothing.
 use Prim.Native.Nat.{ℕ, zero, suc}
 use mathlib.Core.Bool.{Bool, true, false, true≢false, ◌||◌}
 use mathlib.Core.List.{List, [], ◌∷◌}
-use mathlib.Core.Path.{◌≡◌, refl}
+use mathlib.Core.Path.{◌≡◌, refl, ap}
 use lib.Dec.{ltb, eqb}
 use lib.ListN.{get_or}
-use Rattle.settings.specs.Settings.{longest, any_unfair}
+use Rattle.std.specs.List.{list_any}
+use Rattle.settings.specs.Settings.{longest, unfair, any_unfair}
+
+-- a test of each is the test of all
+pub any_is : (ts : List ℕ) → list_any unfair ts ≡ any_unfair ts
+unfolding any_unfair
+any_is [] = refl
+any_is (t ∷ ts) = ap (λ (rest : Bool). unfair t || rest) (any_is ts)
 
 -- none is longer than an operation may be
 pub none_longer : (ts : List ℕ) (k : ℕ) → any_unfair ts ≡ false → ltb longest (get_or ts k 0) ≡ false

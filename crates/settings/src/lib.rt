@@ -8,7 +8,7 @@ ghost use Rattle.settings.specs.Settings.{place_of, duration_of, any_unfair, typ
 pub const LONGEST: u64 = 60000000;
 
 // The kinds of operation that take time.
-#[derive(Clone, Copy)]
+#[derive(Clone, Copy, Debug, PartialEq, Eq)]
 pub enum Kind {
     ByteProgram,
     LongerProgram,
@@ -25,16 +25,7 @@ impl Kind {
     pub(crate) fn place(self) -> usize
         ensures { (result ≡ place_of self) × (result < 8) }
     {
-        match self {
-            Kind::ByteProgram => 0,
-            Kind::LongerProgram => 1,
-            Kind::PageErase => 2,
-            Kind::SmallErase => 3,
-            Kind::LargeErase => 4,
-            Kind::ChipErase => 5,
-            Kind::OtpProgram => 6,
-            Kind::StatusWrite => 7,
-        }
+        self as usize
     }
 }
 
@@ -57,24 +48,13 @@ impl Settings {
     pub fn duration(self, kind: Kind) -> u64
         ensures { result ≡ duration_of self kind }
     {
-        let ticks = self.ticks;
-        let place = kind.place();
-        ticks[place]
+        self.ticks[kind.place()]
     }
 
     // Whether a duration is 0 or too long, which is refusal 7.
     pub fn is_unfair(self) -> bool
         ensures { result ≡ any_unfair self.ticks }
     {
-        let ticks = self.ticks;
-        let mut i = 0;
-        while i < 8 {
-            let t = ticks[i];
-            if (t == 0) | (LONGEST < t) {
-                return true;
-            }
-            i += 1;
-        }
-        false
+        self.ticks.iter().any(|&t| t == 0 || LONGEST < t)
     }
 }

@@ -6,7 +6,6 @@ ghost use Rattle.std.specs.Prelude.{◌≡◌};
 ghost use Rattle.watch.specs.Watch as spec;
 
 use ledger::LIMIT;
-use numbers::larger;
 
 // No call raises a word by more: the longest that an operation may take, in ticks.
 const LONGEST: u64 = 60000000;
@@ -16,10 +15,8 @@ pub fn largest<'a>(totals: &'a [u64; 256], numbers: &'a [u64; 256]) -> u64
     ensures { result ≡ spec.top totals.now numbers.now }
 {
     let mut top = 0;
-    let mut i = 0;
-    while i < 256 {
-        top = larger(larger(totals[i], numbers[i]), top);
-        i += 1;
+    for i in 0..256 {
+        top = totals[i].max(numbers[i]).max(top);
     }
     top
 }

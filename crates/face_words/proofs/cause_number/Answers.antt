@@ -1,17 +1,16 @@
 -- `face_words::cause_number` meets its contract: the number is the place of the words. Assumes nothing.
-use Rattle.std.proofs.Common.{◌≡◌, refl, ap, ◌∙◌}
+use Rattle.std.proofs.Common.{◌≡◌, refl, sym, ap, ◌∙◌}
+use Rattle.std.specs.Prelude.{Option}
 use Rattle.judge.specs.declared.Cause.{Cause}
-use Rattle.judge.specs.declared.Cause.TheVariants.{None, TooFewBits, Asleep, Busy, UnknownOpcode, LatchClear}
+use Rattle.judge.specs.declared.Cause.TheVariants.{TooFewBits, Asleep, Busy, UnknownOpcode, LatchClear}
 use Rattle.judge.specs.declared.Cause.TheVariants.{ResetUnconfirmed, OffBoundary, Incomplete, Protected, Locked}
 use Rattle.judge.specs.declared.Cause.TheVariants.{AlreadyProgrammed, AlreadyAwake}
-use Rattle.judge.specs.Causes.{cause_number, cause_words}
-use Rattle.part.specs.Words.{cause_in}
+use Rattle.judge.specs.Causes.{cause_number, cause_words, words_in}
 use Rattle.face_words.specs.Words.{cause_place, place_of}
 use Rattle.face_words.proofs.cause_number.Goals as goal
 
 placed : (cause : Cause) → cause_number cause ≡ cause_place (cause_words cause)
 unfolding cause_place place_of
-placed None = refl
 placed TooFewBits = refl
 placed Asleep = refl
 placed Busy = refl
@@ -25,7 +24,9 @@ placed Locked = refl
 placed AlreadyProgrammed = refl
 placed AlreadyAwake = refl
 
-pub returns : goal.returns
-returns c =
-    c.as_word.ensures ∙
-    (c.number.ensures ∙ (ap cause_number c.cause_in.ensures ∙ placed (cause_in c.args.outcome)))
+pub returns-in-Some : goal.returns-in-Some
+returns-in-Some c = c.from.ensures ∙ (c.number.ensures ∙ (placed c.in-Some.cause ∙ ap (λ (cause : Option Cause). cause_place (words_in cause)) (sym c.in-Some.is ∙ c.cause_in.ensures)))
+
+pub returns-in-None : goal.returns-in-None
+unfolding cause_place place_of
+returns-in-None c = rw (← c.cause_in.ensures, c.in-None.is)

@@ -1,35 +1,37 @@
 -- `ihex_read::record_at` meets its contract: what stands in the text and what the line says are the same. Assumes
 -- nothing.
-use Rattle.std.proofs.Common.{ℕ, ◌+◌, get_or, drop, sym, ap, ◌∙◌, arith}
+use Rattle.std.proofs.Common.{sym, ◌∙◌, arith}
 use borrow.Author.Tests.{ltb-true}
-use lib.Dec.{eqb}
-use Rattle.ihex_layout.specs.Layout.{colon, sum_of}
-use Rattle.ihex_read.proofs.Whole.{middle, found, too_short_at, no_length_at, same_sum}
+use Rattle.ihex_read.proofs.Lines.{to_end}
+use Rattle.ihex_read.proofs.Whole.{found_short, found_lengthless, found_pairs, found_colonless, found_endless}
 use Rattle.ihex_read.proofs.record_at.Goals as goal
+use Rattle.ihex_read.proofs.record_at.Goals.{then-rest-lt11-via-then-rest-lt11}
+use Rattle.ihex_read.proofs.record_at.Goals.{then-rest-lt11-via-else-rest-lt11+then-rest-ne58}
+use Rattle.ihex_read.proofs.record_at.Goals.{then-rest-lt11-via-else-rest-lt11+else-rest-ne58+then-not-is_pair}
+use Rattle.ihex_read.proofs.record_at.Goals.{then-rest-end-via-then-rest-end}
+use Rattle.ihex_read.proofs.record_at.Goals.{then-rest-end-via-else-rest-end+then-not-is_end}
 
-pub returns-then-left-lt11-clause-whole_value : goal.returns-then-left-lt11-clause-whole_value
-returns-then-left-lt11-clause-whole_value c = sym (too_short_at c.args.text.now c.args.at (omega arith))
+pub returns-then-rest-lt11 : goal.returns-then-rest-lt11
+returns-then-rest-lt11 c =
+    elim c.then-rest-lt11.branch [
+      | then-rest-lt11-via-then-rest-lt11 w ↦ found_short _ (omega arith)
+      | then-rest-lt11-via-else-rest-lt11+then-rest-ne58 w ↦ found_colonless _ w.if-rest-ne58.true
+      | then-rest-lt11-via-else-rest-lt11+else-rest-ne58+then-not-is_pair w ↦
+          found_lengthless _ (sym w.is_pair.ensures ∙ w.if-not-is_pair.true)
+    ]
 
-pub returns-then-not-is_pair-clause-whole_value : goal.returns-then-not-is_pair-clause-whole_value
-returns-then-not-is_pair-clause-whole_value c =
-    sym (no_length_at c.args.text.now c.args.at (sym c.is_pair.ensures ∙ c.if-not-is_pair.true))
-
-pub returns-then-left-length-clause-whole_value : goal.returns-then-left-length-clause-whole_value
-returns-then-left-length-clause-whole_value c =
-    let known = c.byte_at-length.ensures.value (ltb-true _ _ (sym c.is_pair.ensures ∙ c.if-not-is_pair.false)) in
-    sym (too_short_at c.args.text.now c.args.at (omega arith))
+pub returns-then-rest-end : goal.returns-then-rest-end
+returns-then-rest-end c =
+    let known = c.byte_at.ensures.value (ltb-true _ _ (sym c.is_pair.ensures ∙ c.if-not-is_pair.false)) in
+    elim c.then-rest-end.branch [
+      | then-rest-end-via-then-rest-end w ↦ found_short _ (omega arith)
+      | then-rest-end-via-else-rest-end+then-not-is_end w ↦
+          found_endless _ _ known (rw (to_end _ _) at (sym w.is_end.ensures) ∙ w.if-not-is_end.true)
+    ]
 
 pub returns : goal.returns
 returns c =
-    let text = c.args.text.now in
-    let at = c.args.at in
-    let known = c.byte_at-length.ensures.value (ltb-true _ _ (sym c.is_pair.ensures ∙ c.if-not-is_pair.false)) in
-    let e = found text at _ _ _ known c.tally-found.ensures.whole_value c.is_end.ensures in
-    record {
-      whole_value = e;
-      total_value =
-          λ w.
-          c.tally-found.ensures.total_value (middle (eqb (get_or text at 0) colon) c.tally-found.result.whole
-          c.is_end.result w) ∙
-          (ap (λ (n : ℕ). sum_of (drop at text) (n + 5)) known ∙ sym (same_sum text at (sym e ∙ w)));
-    }
+    let known = c.byte_at.ensures.value (ltb-true _ _ (sym c.is_pair.ensures ∙ c.if-not-is_pair.false)) in
+    c.tally.ensures ∙
+    found_pairs _ _ _ known (omega arith) c.if-rest-ne58.false
+    (rw (to_end _ _) at (sym c.is_end.ensures) ∙ c.if-not-is_end.false)

@@ -6,22 +6,20 @@ use Rattle.ihex_layout.specs.Layout.{sum_of}
 use Rattle.ihex_read.specs.Reader.{pairs}
 use Rattle.ihex_read.proofs.tally.Goals as goal
 
-pub loop-i-init : goal.loop-i-init
+pub loop-k-init : goal.loop-k-init
 unfolding pairs sum_of
-loop-i-init c = (omega arith, refl, (λ e. refl), omega arith)
+loop-k-init c = record { tested = refl; adds_up = λ e. refl; small = omega arith }
 
-pub loop-i-preserved : goal.loop-i-preserved
+pub loop-k-preserved : goal.loop-k-preserved
 unfolding pairs sum_of
-loop-i-preserved c = (
-  omega arith,
-  rw (add-one c.loop-i.i, c.is_pair-whole.ensures, c.loop-i.invariant.1),
-  (λ e.
-      let both = (and-eq-true_iff c.loop-i.whole c.is_pair-whole.result).0 e in
-      rw (
-        add-one c.loop-i.i,
-        c.loop-i.invariant.2 both.0,
-        c.byte_at.ensures.value
-            (ltb-true _ _ (sym c.is_pair-whole.ensures ∙ both.1)),
-      )),
-  omega (arith, c.byte_at.ensures.upper_bound),
-)
+loop-k-preserved c =
+    let so = c.loop-k.invariant in
+    record {
+      tested = rw (add-one c.loop-k.k, c.is_pair-whole.ensures, so.tested);
+      adds_up =
+          λ e.
+          let both = (and-eq-true_iff c.loop-k.whole c.is_pair-whole.result).0 e in
+          let read = c.byte_at.ensures.value (ltb-true _ _ (sym c.is_pair-whole.ensures ∙ both.1)) in
+          rw (add-one c.loop-k.k, so.adds_up both.0, read);
+      small = omega (arith, so.small, c.byte_at.ensures.upper_bound);
+    }

@@ -1,13 +1,12 @@
 -- Each turn takes one pair more.
-use Rattle.std.proofs.Common.{◌≡◌, ◌-◌, ◌*◌, ◌≤◌, true, drop}
+use Rattle.std.proofs.Common.{◌≡◌, ◌*◌, ◌≤◌, true}
 use Rattle.ihex_layout.specs.Layout.{sum_of}
 use Rattle.ihex_read.specs.Reader.{pairs}
 use Rattle.ihex_read.proofs.tally.Given as goal
 
-abbrev pub invariant-loop-i : goal.invariant-loop-i
-invariant-loop-i l =
-    (l.i ≤ l.n) × (l.whole ≡ pairs (drop l.at l.text) l.i)
-    × (l.whole ≡ true → l.total ≡ sum_of (drop l.at l.text) l.i) × (l.total ≤ 714 * l.i)
-
-abbrev pub decreases-loop-i : goal.decreases-loop-i
-decreases-loop-i l = l.n - l.i
+abbrev pub invariant-loop-k : goal.invariant-loop-k
+invariant-loop-k l = record {
+  tested : l.whole ≡ pairs l.rest l.k;
+  adds_up : l.whole ≡ true → l.total ≡ sum_of l.rest l.k;
+  small : l.total ≤ 714 * l.k;
+}

@@ -1,6 +1,6 @@
 -- `pages::and_each` meets its contract: each turn ANDs one byte more, read as it was. Assumes nothing.
 use Rattle.std.proofs.Common.{arith}
-use Rattle.cells.proofs.Runs.{begins, same_long, next_read, goes_on, ends}
+use Rattle.cells.proofs.Runs.{begins, same_long, next_read, goes_on}
 use Rattle.pages.proofs.and_each.Goals as goal
 
 pub loop-i-init : goal.loop-i-init
@@ -10,6 +10,3 @@ pub loop-i-preserved : goal.loop-i-preserved
 loop-i-preserved c =
     let r = c.loop-i.invariant in
     goes_on r _ (omega arith) (omega (arith, same_long r)) (rw (next_read r 0))
-
-pub returns : goal.returns
-returns c = ends c.loop-i.invariant (omega arith)

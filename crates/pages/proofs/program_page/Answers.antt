@@ -10,8 +10,8 @@ use Rattle.pages.proofs.program_page.Goals as goal
 pub returns-then-sent-size : goal.returns-then-sent-size
 returns-then-sent-size c =
     let a = c.args in
-    let sent = piece c.lesser.result (length a.source.now) a.source.now in
+    let sent = piece c.min.result (length a.source.now) a.source.now in
     c.and_in.ensures ∙
     (at_once a.size a.page a.start sent a.memory.now c.requires.1 c.if-sent-size.true ∙
     ap (λ (kept : List ℕ). each (programmed a.size a.page a.start kept) a.memory.now)
-    (from_the_end c.lesser.result a.from a.source.now c.lesser.ensures))
+    (from_the_end c.min.result a.from a.source.now c.min.ensures))

@@ -18,19 +18,24 @@ ok c m e = accepted _ _ _ _ e
 pub ticks_of-requires : goal.ticks_of-requires
 ticks_of-requires c =
     let o = ok _ _ c.requires in
-    let short : length c.args.input.now ≤ 8192 = o.short in
-    let fits : (c.args.signals.bits + 7) / 8 ≡ length c.args.input.now = o.fits in
+    let short : length c.args.call.now.input.now ≤ 8192 = o.short in
+    let fits : (c.args.call.now.signals.bits + 7) / 8 ≡ length c.args.call.now.input.now = o.fits in
     (omega arith, o.quick)
+
+-- the memories on its line are not empty
+pub invariant_of-line : goal.invariant_of-line
+invariant_of-line c =
+    let o = ok _ _ c.requires in
+    let l : length c.args.lent.now.register.now ≡ 128 = o.register in
+    record { array_has_bytes = (array_long _ o.array).0; register_has_bytes = omega arith }
 
 pub show-requires : goal.show-requires
 show-requires c =
     let o = ok _ _ c.requires in
-    let l : length c.args.register.now ≡ 128 = o.register in
     record {
-      array_nonzero = ((array_long _ o.array).0, omega arith);
       driven_in_bounds = (
         rw (c.judge-judged.ensures, c.facts_of.ensures)
-            (within _ c.args.settings (facts_for c.args.input.now c.args.signals _)),
+            (within _ c.args.call.now.settings (facts_for c.args.call.now.input.now c.args.call.now.signals _)),
         o.room,
         o.fits,
       );
@@ -39,10 +44,10 @@ show-requires c =
 pub carry_out-covered-requires : goal.carry_out-covered-requires
 carry_out-covered-requires c =
     let o = ok _ _ c.requires in
-    ((array_long _ o.array).0, (array_long _ o.array).1, o.register)
+    (((array_long _ o.array).0, (array_long _ o.array).1), o.register)
 
-pub returns : goal.returns
-returns c =
+pub returns-clause-answer : goal.returns-clause-answer
+returns-clause-answer c =
     together _ _ c.passed-timed.result c.passed-risen.result c.judge-judged.result _ _ _ _ c.passed-timed.ensures
     (rw (c.passed-risen.ensures, c.ticks_of.ensures, c.passed-timed.ensures))
     (rw (c.judge-judged.ensures, c.facts_of.ensures, c.is_busy.ensures))

@@ -1,20 +1,13 @@
--- `part::turned_away` meets its contract: the number that is tested is the call's. Assumes nothing.
+-- `part::turned_away` meets its contract: the refusal that is looked for is the call's. Assumes nothing.
 use Rattle.std.proofs.Common.{ne_eqb}
+use Rattle.refusals.proofs.Numbers.{never_0}
 use Rattle.part.specs.Frame.{number_for}
 use Rattle.part.proofs.turned_away.Goals as goal
 
-pub returns-then-number-eq0 : goal.returns-then-number-eq0
+pub returns-in-Ok : goal.returns-in-Ok
 unfolding number_for
-returns-then-number-eq0 c =
-    rw (c.refused.ensures, ← c.refusal_of-own.ensures, ← c.number.ensures, c.if-number-eq0.true)
+returns-in-Ok c = rw (← c.lengths.ensures, ← c.refusal_of.ensures, c.in-Ok.is)
 
-pub returns : goal.returns
+pub returns-in-Err : goal.returns-in-Err
 unfolding number_for
-returns c =
-    rw (
-      c.refused-2.ensures,
-      ← c.refusal_of-own.ensures,
-      ← c.number.ensures,
-      ne_eqb _ _ c.if-number-eq0.false,
-      c.number.ensures,
-    )
+returns-in-Err c = rw (← c.lengths.ensures, ← c.refusal_of.ensures, c.in-Err.is, ne_eqb _ _ (never_0 c.in-Err.own))
