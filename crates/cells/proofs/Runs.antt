@@ -9,11 +9,11 @@ use native.Mathlib.Omega.{arith}
 use borrow.Author.Tests.{lt-ltb, le-ltb, le-leb, lt-leb, leb-true, ltb-true}
 use lib.Dec.{leb, ltb}
 use borrow.Rule.Slice.PartMut.{post_of, put_mid, mid_len, same_len_mid, Post-is}
-use lib.ListN.{length, get_or, set, take, get_or-append}
+use lib.ListN.{length, get_or, set, take, drop, get_or-append}
 use lib.Seq.{get_or-append_right, get_or-drop, get_or-take, length-take-le}
 use Rattle.cells.specs.Each.{Cell, each, over, stored}
 use Rattle.cells.specs.Range.{range}
-use Rattle.cells.proofs.Places.{each_alike, each_then, each_set, is_each, length-each, over_in, over_out, over_alike}
+use Rattle.cells.proofs.Places.{each_alike, each_then, each_set, is_each, length-each, get_or-each, over_in, over_out, over_alike}
 use Rattle.cells.proofs.Places.{untouched}
 
 -- a place of the range, and the three kinds of place: in it, before it, behind it
@@ -89,6 +89,34 @@ put_stored a b value xs ys p q e h =
 
 -- with it, what a part that is read holds
 pub ruleset parts = (put_stored, get_or-take, get_or-drop)
+
+-- a part of the memory that is changed by itself, its places counted from its own first one: put back it is changed in the memory
+pub put_each : (a b : ℕ) (f g : Cell) (xs : List ℕ) → a ≤ b → b ≤ length xs → ((k x : ℕ) → a ≤ k → k < b → f (k - a) x ≡ g k x)
+    → ((k x : ℕ) → k < a → g k x ≡ x) → ((k x : ℕ) → b ≤ k → g k x ≡ x)
+    → put_mid a (b - a) xs (each f (take (b - a) (drop a xs))) ≡ each g xs
+put_each a b f g xs p q inside before behind =
+    put_stored a b value xs (each f part) p q (length-each f part ∙ long) changed ∙
+    each_alike (stored (range a b) value) g xs (λ k l. by k (get_or xs k 0) (dec_lt k a) (dec_lt k b) refl)
+  where
+    value : ℕ → ℕ
+    value k = g k (get_or xs k 0)
+
+    part : List ℕ
+    part = take (b - a) (drop a xs)
+
+    long : length part ≡ b - a
+    long = mid_len a b xs q
+
+    changed : (k : ℕ) → a ≤ k → k < b → get_or (each f part) (k - a) 0 ≡ value k
+    changed k l m =
+        get_or-each f part (k - a) 0 (omega (arith, long)) ∙
+        (ap (f (k - a)) (get_or-take (b - a) (drop a xs) (k - a) 0 (omega arith) ∙ (get_or-drop a xs (k - a) 0 ∙ ap (λ (n : ℕ). get_or xs n 0) (omega arith))) ∙
+        inside k (get_or xs k 0) l m)
+
+    by : (k x : ℕ) → Dec (k < a) → Dec (k < b) → x ≡ get_or xs k 0 → stored (range a b) value k x ≡ g k x
+    by k x (yes l) m e = over_out _ _ k x (range_before a b k l) ∙ sym (before k x l)
+    by k x (no l) (yes m) e = over_in _ _ k x (range_in a b k (omega arith) m) ∙ ap (g k) (sym e)
+    by k x (no l) (no m) e = over_out _ _ k x (range_behind a b k (omega arith)) ∙ sym (behind k x (omega arith))
 
 -- A loop that gives the places from a up to b their new bytes, one after the other, has reached i: the memory xs has become ys.
 pub record Reached (f : Cell) (a b : ℕ) (xs : List ℕ) (i : ℕ) (ys : List ℕ) : Type 0 where

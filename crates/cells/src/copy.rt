@@ -1,4 +1,5 @@
-// Copying from one memory to another, in straight runs.
+// Copying from one memory to another, in straight runs. Bounds stand beside the output, since the definitions `run` and
+// `copied`, and what is promised of output positions, speak of places in the whole of it.
 ghost use Rattle.std.specs.Prelude.{◌≡◌, ◌+◌, ◌-◌, ◌≤◌, ◌<◌, length};
 ghost use Rattle.cells.specs.Each.{each};
 ghost use Rattle.cells.specs.Range.{copied, run};

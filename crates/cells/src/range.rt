@@ -1,4 +1,5 @@
-// Setting a range of a memory to one value.
+// Setting a range of a memory to one value. Bounds stand beside the memory, since the definition `filled`, and what is
+// promised of erases, speak of places in the whole of it.
 ghost use Rattle.std.specs.Prelude.{◌≡◌, ◌≤◌, length};
 ghost use Rattle.cells.specs.Each.{each};
 ghost use Rattle.cells.specs.Range.{filled};

@@ -1,27 +1,13 @@
--- Why a line is refused, from the numbers of its record. Assumes nothing.
-use Prim.Native.Nat.{ℕ, suc, ◌+◌, ◌*◌, ◌%◌, ◌<◌, ◌≤◌}
+-- What is known of a line that is not refused. Assumes nothing.
+use Prim.Native.Nat.{ℕ, suc, ◌+◌, ◌<◌, ◌≤◌}
 use mathlib.Core.Bool.{Bool, true, false, true≢false, cond, not, ◌&&◌, ◌||◌}
 use mathlib.Core.List.{List}
 use mathlib.Core.Path.{◌≡◌, refl}
 use native.Mathlib.Omega.{arith}
 use borrow.Author.Tests.{ltb-false, eqb-true, eq-eqb, ne_eqb, not-false}
 use lib.Dec.{eqb, ltb}
-use Rattle.ihex_layout.specs.Layout.{length_of, address_of, kind_of, asked, sum_of}
+use Rattle.ihex_layout.specs.Layout.{length_of, address_of, kind_of}
 use Rattle.ihex_read.specs.Reader.{is_whole, malformed, wrong_sum, other_kind, start_of, outside, fault_of}
-
--- the judgement of a whole line with length n, type k, sum t and address a
-abbrev pub fault_by : ℕ → ℕ → ℕ → ℕ → ℕ → ℕ → ℕ
-fault_by size upper n k t a =
-    cond ((eqb k 1 && not (eqb n 0)) || (eqb k 4 && not (eqb n 2))) 12
-    (cond (not (eqb (t % 256) 0)) 13
-    (cond (not (eqb k 0 || eqb k 1 || eqb k 4)) 14
-    (cond (eqb k 0 && not (eqb n 0) && (ltb 65536 (a + n) || ltb size (upper * 65536 + a + n))) 15
-    0)))
-
-pub fault_by_lem : (size upper : ℕ) (line : List ℕ) (n k t a : ℕ) → is_whole line ≡ true → sum_of line (asked line) ≡ t → length_of line ≡ n → kind_of line ≡ k
-    → address_of line ≡ a → fault_of size upper line ≡ fault_by size upper n k t a
-unfolding fault_of
-fault_by_lem size upper line n k t a w s l f p = rw (w, s, l, f, p)
 
 -- What is known of a line that is not malformed.
 pub neither : (s t : Bool) → (s || t) ≡ false → (s ≡ false) × (t ≡ false)
@@ -35,7 +21,8 @@ sound_whole line e = not-false (is_whole line) (neither _ _ e).0
 pub sound_upper : (line : List ℕ) → malformed line ≡ false → kind_of line ≡ 4 → length_of line ≡ 2
 sound_upper line e k =
     let w = (neither (not (is_whole line)) _ e).1 in
-    let u : (eqb (kind_of line) 4 && not (eqb (length_of line) 2)) ≡ false = (neither (eqb (kind_of line) 1 && not (eqb (length_of line) 0)) _ w).1 in
+    let u : (eqb (kind_of line) 4 && not (eqb (length_of line) 2)) ≡ false =
+    (neither (eqb (kind_of line) 1 && not (eqb (length_of line) 0)) _ w).1 in
     eqb-true (length_of line) 2 (not-false (eqb (length_of line) 2) (rw (eq-eqb (kind_of line) 4 k) at u))
 
 -- What is known of a line that is not refused.
@@ -51,10 +38,13 @@ sound size upper line e = (passed _ _ _ e).0
 pub good_whole : (size upper : ℕ) (line : List ℕ) → fault_of size upper line ≡ 0 → is_whole line ≡ true
 good_whole size upper line e = sound_whole line (sound size upper line e)
 
-pub data_inside : (size upper : ℕ) (line : List ℕ) → fault_of size upper line ≡ 0 → kind_of line ≡ 0 → 0 < length_of line → start_of upper line + length_of line ≤ size
+pub data_inside : (size upper : ℕ) (line : List ℕ) → fault_of size upper line ≡ 0 → kind_of line ≡ 0
+    → 0 < length_of line → start_of upper line + length_of line ≤ size
 unfolding fault_of
 data_inside size upper line e k l =
-    let last = (passed (outside size upper line) _ _ (passed (other_kind line) _ _ (passed (wrong_sum line) _ _ (passed (malformed line) _ _ e).1).1).1).0 in
+    let summed = (passed (wrong_sum line) _ _ (passed (malformed line) _ _ e).1).1 in
+    let last = (passed (outside size upper line) _ _ (passed (other_kind line) _ _ summed).1).0 in
     let more : eqb (length_of line) 0 ≡ false = ne_eqb (length_of line) 0 (λ z. omega arith) in
     ltb-false size (start_of upper line + length_of line)
-    (neither (ltb 65536 (address_of line + length_of line)) (ltb size (start_of upper line + length_of line)) (rw (eq-eqb (kind_of line) 0 k, more) at last)).1
+    (neither (ltb 65536 (address_of line + length_of line)) (ltb size (start_of upper line + length_of line))
+    (rw (eq-eqb (kind_of line) 0 k, more) at last)).1

@@ -1,12 +1,13 @@
-// The reader of Intel HEX: text is laid into an array. A first walk over the records judges them all; only then a second one writes.
-// Nothing is required of a caller; what is wrong is refused.
+// The reader of Intel HEX: text is laid into an array. A first walk over the records judges them all; only then a
+// second one writes. Nothing is required of a caller; what is wrong is refused.
 #![tactic(auto)]
 
 ghost use Rattle.std.specs.Prelude.{true, false, cond, not, ◌&&◌, ◌||◌, Some, None, ◌≡◌, ◌+◌, ◌*◌, ◌<◌, ◌≤◌};
 ghost use Rattle.std.specs.Prelude.{eqb, ltb, length};
 ghost use Rattle.cells.specs.Each.{each};
 ghost use Rattle.refusals.specs.Refusals.{number_in};
-ghost use Rattle.ihex_layout.specs.Layout.{digit_of, byte_at, length_of, asked, sum_of};
+ghost use Rattle.ihex_layout.specs.Layout.{digit_of, byte_at, length_of, address_of, kind_of};
+ghost use Rattle.ihex_layout.specs.Layout.{kind_named, kind_number, asked, sum_of};
 ghost use Rattle.ihex_read.specs.Reader.{
   lines_in,
   first,
@@ -15,6 +16,7 @@ ghost use Rattle.ihex_read.specs.Reader.{
   pairs,
   is_whole,
   malformed,
+  outside,
   fault_of,
   upper_behind,
   judged_in,
@@ -27,6 +29,7 @@ ghost use Rattle.ihex_read.specs.Reader.{
   array_of,
 };
 
+use ihex_layout::Kind;
 use memories::is_array;
 use refusals::Refusal;
 
@@ -118,32 +121,56 @@ fn record_at(rest: &[u8]) -> Option<u32>
     tally(rest, end / 2)
 }
 
-// Whether a record of that type may not have that length: the end record has no data, and type 04 two bytes.
-fn has_wrong_length(kind: usize, length: usize) -> bool
-    ensures { result ≡ ((eqb kind 1 && not (eqb length 0)) || (eqb kind 4 && not (eqb length 2))) }
+// The type of a whole record, if it is one that is read.
+#[tactic(auto, using(crate::proofs::Whole::whole_some))]
+fn kind_at(rest: &[u8]) -> Option<Kind>
+    requires { is_whole (first (lines_in rest.now)) ≡ true }
+    ensures { result ≡ kind_named (kind_of (first (lines_in rest.now))) }
 {
-    match kind {
-        1 => length != 0,
-        4 => length != 2,
+    Kind::try_from(byte_at(rest, 3)).ok()
+}
+
+// Whether a whole record has that type.
+fn has_kind(rest: &[u8], kind: Kind) -> bool
+    requires { is_whole (first (lines_in rest.now)) ≡ true }
+    ensures { result ≡ eqb (kind_of (first (lines_in rest.now))) (kind_number kind) }
+{
+    kind_at(rest) == Some(kind)
+}
+
+// Whether a whole record has a length that its type may not have: the end record has no data, and type 04 two bytes.
+#[tactic(auto, using(crate::proofs::Whole::whole_some))]
+fn has_wrong_length(rest: &[u8]) -> bool
+    requires { is_whole (first (lines_in rest.now)) ≡ true }
+    ensures { result ≡ malformed (first (lines_in rest.now)) }
+{
+    let length = byte_at(rest, 0);
+    match kind_at(rest) {
+        Some(Kind::End) => length != 0,
+        Some(Kind::Upper) => length != 2,
         _ => false,
     }
 }
 
-// Whether a type is one of the three that are read.
-fn is_known(kind: usize) -> bool
-    ensures { result ≡ (eqb kind 0 || eqb kind 1 || eqb kind 4) }
+// The address that a whole record gives.
+#[tactic(auto, using(crate::proofs::Whole::whole_some))]
+fn address_at(rest: &[u8]) -> usize
+    requires { is_whole (first (lines_in rest.now)) ≡ true }
+    ensures value { result ≡ address_of (first (lines_in rest.now)) }
+    ensures upper_bound { result < 65536 }
 {
-    matches!(kind, 0 | 1 | 4)
+    byte_at(rest, 1) * 256 + byte_at(rest, 2)
 }
 
-// Whether a record has data past its 64 KiB, or outside an array of that size.
-fn is_outside(kind: usize, upper: usize, address: usize, length: usize, size: usize) -> bool
-    requires { (upper < 65536) × (address < 4294967296) × (length < 4294967296) }
-    ensures { result ≡
-        (eqb kind 0 && not (eqb length 0)
-        && (ltb 65536 (address + length) || ltb size (upper * 65536 + address + length))) }
+// Whether a whole record has data past its 64 KiB, or outside an array of that size.
+#[tactic(auto, using(crate::proofs::Whole::whole_some))]
+fn is_outside(rest: &[u8], upper: usize, size: usize) -> bool
+    requires { (is_whole (first (lines_in rest.now)) ≡ true) × (upper < 65536) }
+    ensures { result ≡ outside size upper (first (lines_in rest.now)) }
 {
-    kind == 0
+    let length = byte_at(rest, 0);
+    let address = address_at(rest);
+    has_kind(rest, Kind::Data)
         && length != 0
         && (65536 < address + length || size < upper * 65536 + address + length)
 }
@@ -155,19 +182,16 @@ fn fault_of(rest: &[u8], upper: usize, size: usize) -> Result<(), Refusal>
     ensures { number_in result ≡ fault_of size upper (first (lines_in rest.now)) }
 {
     let total = record_at(rest).ok_or(Refusal::HexRecord)?;
-    let length = byte_at(rest, 0);
-    let kind = byte_at(rest, 3);
-    if has_wrong_length(kind, length) {
+    if has_wrong_length(rest) {
         return Err(Refusal::HexRecord);
     }
     if total % 256 != 0 {
         return Err(Refusal::HexChecksum);
     }
-    if !is_known(kind) {
+    if kind_at(rest).is_none() {
         return Err(Refusal::HexType);
     }
-    let address = byte_at(rest, 1) * 256 + byte_at(rest, 2);
-    if is_outside(kind, upper, address, length, size) {
+    if is_outside(rest, upper, size) {
         return Err(Refusal::HexOutside);
     }
     Ok(())
@@ -193,7 +217,7 @@ fn upper_behind(rest: &[u8], upper: usize) -> usize
     ensures value { result ≡ upper_behind upper (first (lines_in rest.now)) }
     ensures upper_bound { result < 65536 }
 {
-    if byte_at(rest, 3) == 4 {
+    if has_kind(rest, Kind::Upper) {
         byte_at(rest, 4) * 256 + byte_at(rest, 5)
     } else {
         upper
@@ -216,7 +240,8 @@ fn end_at(text: &[u8], at: usize) -> Result<(), Fault>
 
 // The first walk: the first faulty record decides.
 fn judge(text: &[u8], size: usize) -> Result<(), Fault>
-    ensures { told result ≡ reading (judged_in text.now size).refusal (place_of (judged_in text.now size).line text.now) }
+    ensures { told result ≡
+        reading (judged_in text.now size).refusal (place_of (judged_in text.now size).line text.now) }
 {
     let mut at = 0;
     let mut upper = 0;
@@ -227,7 +252,7 @@ fn judge(text: &[u8], size: usize) -> Result<(), Fault>
             return Err(Fault { refusal, place: at });
         }
         let next = at + next_line(rest);
-        if byte_at(rest, 3) == 1 {
+        if has_kind(rest, Kind::End) {
             return end_at(text, next);
         }
         upper = upper_behind(rest, upper);
@@ -259,8 +284,8 @@ fn obey(array: &mut [u8], rest: &[u8], upper: usize)
     requires { (fault_of (length array.old) upper (first (lines_in rest.now)) ≡ 0) × (upper < 65536) }
     ensures { array.new ≡ obeyed upper (first (lines_in rest.now)) array.old }
 {
-    if byte_at(rest, 3) == 0 {
-        let start = upper * 65536 + (byte_at(rest, 1) * 256 + byte_at(rest, 2));
+    if has_kind(rest, Kind::Data) {
+        let start = upper * 65536 + address_at(rest);
         lay(array, start, rest);
     }
 }
@@ -275,7 +300,7 @@ fn carry_out(array: &mut [u8], text: &[u8])
     // a line's own length says where the next one begins, so no range counts it
     while at < text.len() {
         let rest = &text[at..];
-        if byte_at(rest, 3) == 1 {
+        if has_kind(rest, Kind::End) {
             return;
         }
         obey(array, rest, upper);

@@ -1,18 +1,19 @@
-// The writer of Intel HEX: an array becomes text by the published layout. It knows bytes, characters and the sizes of an array, and nothing
-// of flash. Nothing is required of a caller; what is wrong is refused.
+// The writer of Intel HEX: an array becomes text by the published layout. It knows bytes, characters and the sizes of
+// an array, and nothing of flash. Nothing is required of a caller; what is wrong is refused.
 #![tactic(auto)]
 
 ghost use Rattle.std.specs.Prelude.{[], ◌∷◌, ◌++◌, ◌≡◌, ◌+◌, ◌*◌, ◌%◌, ◌<◌, ◌≤◌, length, take, drop};
 ghost use Rattle.std.proofs.lemmas.List.Edits.{sets};
 ghost use Rattle.ihex_layout.specs.Layout as layout;
-ghost use Rattle.ihex_layout.specs.Layout.{line_feed, digits, sum, record_line};
+ghost use Rattle.ihex_layout.specs.Layout.{line_feed, digits, sum, kind_number, record_line};
 ghost use Rattle.ihex_write.specs.Writer.{upper_line, lines_at, joined, text_of, characters_for, told, written_of};
 ghost use Rattle.ihex_write.specs.Writer.{output_of};
 
+use ihex_layout::Kind;
 use memories::is_array;
 use refusals::Refusal;
 
-// A digit, in upper case.
+// A digit, in upper case: the library's `char::from_digit` has small letters.
 fn digit(n: u8) -> u8
     requires { n < 16 }
     ensures { result ≡ layout.digit n }
@@ -48,18 +49,19 @@ fn put_bytes(output: &mut [u8], at: usize, bytes: &[u8]) -> usize
 }
 
 // A record and its LF.
-fn put_record(output: &mut [u8], at: usize, address: usize, kind: u8, content: &[u8])
+fn put_record(output: &mut [u8], at: usize, address: usize, kind: Kind, content: &[u8])
     requires { (at + 2 * length content.now + 12 ≤ length output.old) × (address < 65536) × (length content.now < 256) }
-    ensures { output.new ≡ sets output.old at (record_line address kind content.now ++ line_feed ∷ []) }
+    ensures { output.new ≡ sets output.old at (record_line address (kind_number kind) content.now ++ line_feed ∷ []) }
 {
     let count = content.len();
+    let number = kind.number();
     output[at] = b':';
     put_byte(output, at + 1, count as u8);
     put_byte(output, at + 3, (address / 256) as u8);
     put_byte(output, at + 5, (address % 256) as u8);
-    put_byte(output, at + 7, kind);
+    put_byte(output, at + 7, number);
     let total = put_bytes(output, at + 9, content);
-    let all = count + (address / 256 + (address % 256 + (kind as usize + total)));
+    let all = count + (address / 256 + (address % 256 + (usize::from(number) + total)));
     put_byte(output, at + 9 + 2 * count, ((256 - all % 256) % 256) as u8);
     output[at + 11 + 2 * count] = b'\n';
 }
@@ -70,11 +72,11 @@ fn put_upper(output: &mut [u8], at: usize, upper: usize)
     ensures { output.new ≡ sets output.old at (upper_line upper ++ line_feed ∷ []) }
 {
     let bytes = [(upper / 256) as u8, (upper % 256) as u8];
-    put_record(output, at, 0, 4, &bytes);
+    put_record(output, at, 0, Kind::Upper, &bytes);
 }
 
-// The records for 16 bytes of the array from `from` on: where 64 KiB begin, one of type 04 comes first. The answer is where the text
-// goes on.
+// The records for 16 bytes of the array from `from` on: where 64 KiB begin, one of type 04 comes first. The answer is
+// where the text goes on.
 fn put_row(output: &mut [u8], at: usize, array: &[u8], from: usize) -> usize
     requires { (at + length (joined (lines_at array.now from)) ≤ length output.old) × (from + 16 ≤ length array.now) ×
         (length array.now ≤ 4294967296) }
@@ -84,23 +86,24 @@ fn put_row(output: &mut [u8], at: usize, array: &[u8], from: usize) -> usize
     let bytes = &array[from..from + 16];
     if from % 65536 == 0 {
         put_upper(output, at, from / 65536);
-        put_record(output, at + 16, from % 65536, 0, bytes);
+        put_record(output, at + 16, from % 65536, Kind::Data, bytes);
         return at + 60;
     }
-    put_record(output, at, from % 65536, 0, bytes);
+    put_record(output, at, from % 65536, Kind::Data, bytes);
     at + 44
 }
 
 // The text of an array.
 fn put_text(output: &mut [u8], array: &[u8])
-    requires { (length (text_of array.now) ≤ length output.old) × (length array.now % 65536 ≡ 0) × (length array.now ≤ 4294967296) }
+    requires { (length (text_of array.now) ≤ length output.old) × (length array.now % 65536 ≡ 0) ×
+        (length array.now ≤ 4294967296) }
     ensures { output.new ≡ sets output.old 0 (text_of array.now) }
 {
     let mut at = 0;
     for from in (0..array.len()).step_by(16) {
         at = put_row(output, at, array, from);
     }
-    put_record(output, at, 0, 1, &[]);
+    put_record(output, at, 0, Kind::End, &[]);
 }
 
 // How many characters the text of an array of that size has.

@@ -62,7 +62,7 @@ pub enum Outcome {
 
 // What is to be done with the memories: nothing, drive bytes of a source, program a page, erase a region, program the
 // register.
-#[derive(Clone, Copy)]
+#[derive(Clone, Copy, Debug, PartialEq, Eq)]
 pub enum Action {
     Still,
     Drive(Source),
@@ -108,36 +108,6 @@ fn begun(device: Device, ticks: u64, action: Action) -> Judged
     }
 }
 
-// Whether the bit count is divisible by 8.
-fn on_boundary(facts: Facts) -> bool
-    ensures { result ≡ causes.on_boundary facts }
-{
-    facts.bits % 8 == 0
-}
-
-// How many positions a read drives: those from its first on, and no more than its row says.
-fn driven(row: Row, facts: Facts) -> usize
-    ensures { result ≡ judging.driven row facts }
-{
-    let first = row.first as usize;
-    let most = row.most as usize;
-    facts.bytes.saturating_sub(first).min(most)
-}
-
-// A read: the first driven position is 0 where none is driven.
-fn read(row: Row, source: Source, device: Device, facts: Facts) -> Judged
-    ensures { result ≡ judging.read row source device facts }
-{
-    let driven = driven(row, facts);
-    Judged {
-        device,
-        outcome: Outcome::Read,
-        first: if driven == 0 { 0 } else { row.first as usize },
-        driven,
-        action: Action::Drive(source),
-    }
-}
-
 // The control commands: what each makes of the record.
 fn changed(order: Order, device: Device) -> Device
     ensures { result ≡ judging.changed order device }
@@ -152,12 +122,6 @@ fn changed(order: Order, device: Device) -> Device
     }
 }
 
-fn ordered(order: Order, device: Device) -> Judged
-    ensures { result ≡ judging.ordered order device }
-{
-    quiet(Outcome::Control, changed(order, device))
-}
-
 // The duration that an erase of the region takes.
 fn erase_kind(region: Region) -> Kind
     ensures { result ≡ judging.erase_kind region }
@@ -170,142 +134,199 @@ fn erase_kind(region: Region) -> Kind
     }
 }
 
-// The duration that a program takes, by the bytes sent.
-fn program_kind(facts: Facts) -> Kind
-    ensures { result ≡ judging.program_kind facts }
-{
-    if facts.bytes == 5 {
-        Kind::ByteProgram
-    } else {
-        Kind::LongerProgram
+impl Facts {
+    // Whether the bit count is divisible by 8.
+    fn on_boundary(self) -> bool
+        ensures { result ≡ causes.on_boundary self }
+    {
+        self.bits % 8 == 0
+    }
+
+    // The duration that a program takes, by the bytes sent.
+    fn program_kind(self) -> Kind
+        ensures { result ≡ judging.program_kind self }
+    {
+        if self.bytes == 5 {
+            Kind::ByteProgram
+        } else {
+            Kind::LongerProgram
+        }
     }
 }
 
-// The commands that need the latch.
-fn carried(work: Work, device: Device, settings: Settings, facts: Facts) -> Judged
-    ensures { result ≡ judging.carried work device settings facts }
-{
-    match work {
-        Work::Program => begun(
-            device,
-            settings.duration(program_kind(facts)),
-            Action::Program,
-        ),
-        Work::Erase(region) => begun(
-            device,
-            settings.duration(erase_kind(region)),
-            Action::Erase(region),
-        ),
-        Work::Otp => begun(
-            device.marked(),
-            settings.duration(Kind::OtpProgram),
-            Action::Otp,
-        ),
-        Work::WriteStatus => begun(
-            device.written(facts.second),
-            settings.duration(Kind::StatusWrite),
-            Action::Still,
-        ),
-        Work::WriteStatusTwo => quiet(Outcome::Control, device.dropped().enabled(facts.second)),
-    }
+// What is judged: the row of the frame's opcode, the record at its rise, the settings, and what is known of the frame.
+#[derive(Clone, Copy)]
+struct Hearing {
+    row: Row,
+    device: Device,
+    settings: Settings,
+    facts: Facts,
 }
 
-// Nothing comes of the frame, for this cause.
-fn nothing(cause: Cause, device: Device) -> Judged
-    ensures { result ≡ judging.nothing cause device }
-{
-    quiet(Outcome::Nothing(cause), device)
-}
+impl Hearing {
+    // Nothing comes of the frame, for this cause.
+    fn nothing(self, cause: Cause) -> Judged
+        ensures { result ≡ judging.nothing cause self.device }
+    {
+        quiet(Outcome::Nothing(cause), self.device)
+    }
 
-// The latch drops, and there is no operation, for this cause.
-fn aborted(cause: Cause, device: Device) -> Judged
-    ensures { result ≡ judging.aborted cause device }
-{
-    quiet(Outcome::Aborted(cause), device.dropped())
-}
+    // The latch drops, and there is no operation, for this cause.
+    fn aborted(self, cause: Cause) -> Judged
+        ensures { result ≡ judging.aborted cause self.device }
+    {
+        quiet(Outcome::Aborted(cause), self.device.dropped())
+    }
 
-// A control command that needs a boundary.
-fn bounded(order: Order, device: Device, facts: Facts) -> Judged
-    ensures { result ≡ steps.bounded order device facts }
-{
-    if !on_boundary(facts) {
-        return nothing(Cause::OffBoundary, device);
+    // How many positions a read drives: those from its first on, and no more than its row says.
+    fn driven(self) -> usize
+        ensures { result ≡ judging.driven self.row self.facts }
+    {
+        let first = self.row.first as usize;
+        let most = self.row.most as usize;
+        self.facts.bytes.saturating_sub(first).min(most)
     }
-    ordered(order, device)
-}
 
-// A reset, which has to be enabled, and confirmed by a second byte that was clocked whole.
-fn reset(device: Device, facts: Facts) -> Judged
-    ensures { result ≡ steps.ordering Order.Reset device facts }
-{
-    if !(device.rste && facts.second == 0xD0 && 16 <= facts.bits) {
-        return nothing(Cause::ResetUnconfirmed, device);
+    // A read: the first driven position is 0 where none is driven.
+    fn read(self, source: Source) -> Judged
+        ensures { result ≡ judging.read self.row source self.device self.facts }
+    {
+        let driven = self.driven();
+        Judged {
+            device: self.device,
+            outcome: Outcome::Read,
+            first: if driven == 0 {
+                0
+            } else {
+                self.row.first as usize
+            },
+            driven,
+            action: Action::Drive(source),
+        }
     }
-    bounded(Order::Reset, device, facts)
-}
 
-// A control command; a resume finds the part awake.
-fn ordering(order: Order, device: Device, facts: Facts) -> Judged
-    ensures { result ≡ steps.ordering order device facts }
-{
-    match order {
-        Order::Resume => nothing(Cause::AlreadyAwake, device),
-        Order::Reset => reset(device, facts),
-        _ => bounded(order, device, facts),
+    // A control command is carried out.
+    fn ordered(self, order: Order) -> Judged
+        ensures { result ≡ judging.ordered order self.device }
+    {
+        quiet(Outcome::Control, changed(order, self.device))
     }
-}
 
-// What bars a command that needs the latch: protection, the OTP-used mark or the locked status.
-fn bar(work: Work, device: Device, facts: Facts) -> Option<Cause>
-    ensures { result ≡ steps.bar work device facts }
-{
-    match work {
-        Work::Program | Work::Erase(_) => device.bp0.then_some(Cause::Protected),
-        Work::Otp => device.used.then_some(Cause::AlreadyProgrammed),
-        Work::WriteStatus => (device.bpl && !facts.wp).then_some(Cause::Locked),
-        Work::WriteStatusTwo => None,
+    // A control command that needs a boundary.
+    fn bounded(self, order: Order) -> Judged
+        ensures { result ≡ steps.bounded order self.device self.facts }
+    {
+        if !self.facts.on_boundary() {
+            return self.nothing(Cause::OffBoundary);
+        }
+        self.ordered(order)
     }
-}
 
-// A command that needs the latch: with it, carried out or aborted.
-fn working(work: Work, row: Row, device: Device, settings: Settings, facts: Facts) -> Judged
-    ensures { result ≡ steps.working work row device settings facts }
-{
-    if !device.wel {
-        return nothing(Cause::LatchClear, device);
+    // A reset, which has to be enabled, and confirmed by a second byte that was clocked whole.
+    fn reset(self) -> Judged
+        ensures { result ≡ steps.ordering Order.Reset self.device self.facts }
+    {
+        if !(self.device.rste && self.facts.second == 0xD0 && 16 <= self.facts.bits) {
+            return self.nothing(Cause::ResetUnconfirmed);
+        }
+        self.bounded(Order::Reset)
     }
-    if !on_boundary(facts) {
-        return aborted(Cause::OffBoundary, device);
-    }
-    if facts.bytes < row.bytes as usize {
-        return aborted(Cause::Incomplete, device);
-    }
-    match bar(work, device, facts) {
-        Some(cause) => aborted(cause, device),
-        None => carried(work, device, settings, facts),
-    }
-}
 
-// By opcode, an awake part that hears the frame.
-fn by_opcode(row: Row, device: Device, settings: Settings, facts: Facts) -> Judged
-    ensures { result ≡ steps.by_opcode row.command row device settings facts }
-{
-    match row.command {
-        Command::Unlisted => nothing(Cause::UnknownOpcode, device),
-        Command::Reads(source) => read(row, source, device, facts),
-        Command::Orders(order) => ordering(order, device, facts),
-        Command::Works(work) => working(work, row, device, settings, facts),
+    // A control command; a resume finds the part awake.
+    fn ordering(self, order: Order) -> Judged
+        ensures { result ≡ steps.ordering order self.device self.facts }
+    {
+        match order {
+            Order::Resume => self.nothing(Cause::AlreadyAwake),
+            Order::Reset => self.reset(),
+            _ => self.bounded(order),
+        }
     }
-}
 
-// In deep power-down only the row that says so is heard, on a boundary: ABh.
-fn asleep(row: Row, device: Device, facts: Facts) -> Judged
-    ensures { result ≡ steps.asleep row device facts }
-{
-    if row.asleep && on_boundary(facts) {
-        return ordered(Order::Resume, device);
+    // What bars a command that needs the latch: protection, the OTP-used mark or the locked status.
+    fn bar(self, work: Work) -> Option<Cause>
+        ensures { result ≡ steps.bar work self.device self.facts }
+    {
+        match work {
+            Work::Program | Work::Erase(_) => self.device.bp0.then_some(Cause::Protected),
+            Work::Otp => self.device.used.then_some(Cause::AlreadyProgrammed),
+            Work::WriteStatus => (self.device.bpl && !self.facts.wp).then_some(Cause::Locked),
+            Work::WriteStatusTwo => None,
+        }
     }
-    nothing(Cause::Asleep, device)
+
+    // The commands that need the latch.
+    fn carried(self, work: Work) -> Judged
+        ensures { result ≡ judging.carried work self.device self.settings self.facts }
+    {
+        match work {
+            Work::Program => begun(
+                self.device,
+                self.settings.duration(self.facts.program_kind()),
+                Action::Program,
+            ),
+            Work::Erase(region) => begun(
+                self.device,
+                self.settings.duration(erase_kind(region)),
+                Action::Erase(region),
+            ),
+            Work::Otp => begun(
+                self.device.marked(),
+                self.settings.duration(Kind::OtpProgram),
+                Action::Otp,
+            ),
+            Work::WriteStatus => begun(
+                self.device.written(self.facts.second),
+                self.settings.duration(Kind::StatusWrite),
+                Action::Still,
+            ),
+            Work::WriteStatusTwo => quiet(
+                Outcome::Control,
+                self.device.dropped().enabled(self.facts.second),
+            ),
+        }
+    }
+
+    // A command that needs the latch: with it, carried out or aborted.
+    fn working(self, work: Work) -> Judged
+        ensures { result ≡ steps.working work self.row self.device self.settings self.facts }
+    {
+        if !self.device.wel {
+            return self.nothing(Cause::LatchClear);
+        }
+        if !self.facts.on_boundary() {
+            return self.aborted(Cause::OffBoundary);
+        }
+        if self.facts.bytes < self.row.bytes as usize {
+            return self.aborted(Cause::Incomplete);
+        }
+        match self.bar(work) {
+            Some(cause) => self.aborted(cause),
+            None => self.carried(work),
+        }
+    }
+
+    // By opcode, an awake part that hears the frame.
+    fn by_opcode(self) -> Judged
+        ensures { result ≡ steps.by_opcode self.row.command self.row self.device self.settings self.facts }
+    {
+        match self.row.command {
+            Command::Unlisted => self.nothing(Cause::UnknownOpcode),
+            Command::Reads(source) => self.read(source),
+            Command::Orders(order) => self.ordering(order),
+            Command::Works(work) => self.working(work),
+        }
+    }
+
+    // In deep power-down only the row that says so is heard, on a boundary: ABh.
+    fn asleep(self) -> Judged
+        ensures { result ≡ steps.asleep self.row self.device self.facts }
+    {
+        if self.row.asleep && self.facts.on_boundary() {
+            return self.ordered(Order::Resume);
+        }
+        self.nothing(Cause::Asleep)
+    }
 }
 
 // A frame goes by the first cause of the request's list that holds, and by its opcode if none does. The five steps of
@@ -315,11 +336,17 @@ pub fn judge(device: Device, settings: Settings, facts: Facts) -> Judged
     ensures { result ≡ judging.judged device settings facts }
 {
     let row = opcodes::row_of(facts.code);
+    let hearing = Hearing {
+        row,
+        device,
+        settings,
+        facts,
+    };
     match device.mode {
         Mode::UltraDeep => quiet(Outcome::Control, device.woken()),
-        _ if facts.bits < 8 => nothing(Cause::TooFewBits, device),
-        Mode::Deep => asleep(row, device, facts),
-        Mode::Awake if facts.busy && !row.busy => nothing(Cause::Busy, device),
-        Mode::Awake => by_opcode(row, device, settings, facts),
+        _ if facts.bits < 8 => hearing.nothing(Cause::TooFewBits),
+        Mode::Deep => hearing.asleep(),
+        Mode::Awake if facts.busy && !row.busy => hearing.nothing(Cause::Busy),
+        Mode::Awake => hearing.by_opcode(),
     }
 }

@@ -22,7 +22,8 @@ pub const ACCOUNTS: u64 = 256;
 // No account's total or number may be above.
 pub const LIMIT: u64 = 9000000000000000000;
 
-// Whose operation is running, and what it was billed so far. An account over 255 is nobody.
+// Whose operation is running, and what it was billed so far. An account over 255 is nobody: a caller in C lends the two
+// words, and any number may stand there.
 #[derive(Clone, Copy)]
 pub struct Running {
     pub account: u64,
@@ -93,7 +94,7 @@ fn any_above<'a>(table: &'a [u64; 256], also: &'a [u64; 256]) -> bool
     has_above(table) || has_above(also)
 }
 
-// Whether the ledger is shut to a call of this account.
+// Whether the ledger is shut to a call of this account. Of the tables it reads the two that refusal 9 asks for.
 pub fn is_shut<'a>(account: u64, totals: &'a [u64; 256], numbers: &'a [u64; 256]) -> bool
     ensures { result ≡ not (spec.is_account account) || (spec.any_above totals.now || spec.any_above numbers.now) }
 {

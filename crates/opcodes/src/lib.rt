@@ -2,7 +2,7 @@
 #![tactic(auto)]
 
 ghost use Rattle.std.specs.Prelude.{◌≡◌};
-ghost use Rattle.opcodes.specs.Rows.{row_of, unlisted};
+ghost use Rattle.opcodes.specs.Rows.{row_of};
 
 // Where a read takes the bytes that it drives: the array, the security register, the status bytes, the device's
 // identity, or its legacy identity.
@@ -71,7 +71,8 @@ pub struct Row {
     pub command: Command,
 }
 
-// As many positions as the frame has: none that is accepted has more.
+// As many positions as the frame has: none that is accepted has more. It is a number because the definition `rows` has
+// one there, of which judging takes the lesser.
 const ENDLESS: u16 = 0xFFFF;
 
 // Writes the rows of a table out, from their fields in the order of `Row`.
@@ -120,29 +121,27 @@ const ROWS: [Row; 23] = rows! {
     0x31 2 0 0 true true false false Command::Works(Work::WriteStatusTwo),
 };
 
-// The row of an opcode that is not listed.
-fn unlisted(code: u8) -> Row
-    ensures { result ≡ unlisted code }
-{
-    Row {
-        code,
-        bytes: 1,
-        first: 0,
-        most: 0,
-        boundary: false,
-        latch: false,
-        busy: false,
-        asleep: false,
-        command: Command::Unlisted,
-    }
-}
+// The row of an opcode that is not listed, but for its code.
+const UNLISTED: Row = Row {
+    code: 0,
+    bytes: 1,
+    first: 0,
+    most: 0,
+    boundary: false,
+    latch: false,
+    busy: false,
+    asleep: false,
+    command: Command::Unlisted,
+};
 
-// The row of an opcode; of one that is not listed, a row that says so.
+// The row of an opcode; of one that is not listed, a row that says so. The rows are looked at where they lie: so judging
+// reads the fields alone that it asks for.
 pub fn row_of(code: u8) -> Row
     ensures { result ≡ row_of code }
 {
-    ROWS.iter()
+    let row = ROWS
+        .iter()
         .find(|row| row.code == code)
-        .copied()
-        .unwrap_or(unlisted(code))
+        .unwrap_or(&UNLISTED);
+    Row { code, ..*row }
 }

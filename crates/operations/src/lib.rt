@@ -2,7 +2,7 @@
 // right lengths.
 #![tactic(auto)]
 
-ghost use Rattle.std.specs.Prelude.{◌≡◌, ◌<◌, ◌+◌, ◌^◌, length};
+ghost use Rattle.std.specs.Prelude.{◌≡◌, ◌<◌, ◌+◌, ◌^◌, length, drop};
 ghost use Rattle.cells.specs.Each.{each};
 ghost use Rattle.operations.specs.Operations.{HasBlocks, cell_of, block_of, span, width_of};
 ghost use Rattle.operations.specs.Operations.{on_array, on_register, range_of};
@@ -23,7 +23,7 @@ pub struct Range {
     pub to: usize,
 }
 
-// No place.
+// No place. An empty range says so; an Option around a range that may be empty would say it in two ways.
 pub fn nowhere() -> Range
     ensures { result ≡ spec.nowhere }
 {
@@ -42,7 +42,15 @@ fn block(width: usize, place: usize) -> Range
     }
 }
 
+// The bytes of the input from a place on; none, if it has none there.
+fn behind(input: &[u8], from: usize) -> &[u8]
+    ensures { result.now ≡ drop from input.now }
+{
+    &input[from.min(input.len())..]
+}
+
 // Programs the page that the address names, and says which it is.
+#[tactic(auto, using(pages::proofs::Laws::put_programmed))]
 fn program(array: &mut [u8], input: &[u8]) -> Range
     requires { HasBlocks (length array.old) }
     ensures value { result ≡ range_of (on_array Action.Program (length array.old) input.now) }
@@ -50,7 +58,9 @@ fn program(array: &mut [u8], input: &[u8]) -> Range
 {
     let place = wrapped(address_of(input), array.len());
     let page = block(256, place);
-    program_page(array, 256, page.from, place % 256, input, 4);
+    let sent = behind(input, 4);
+    // By `page.to` the compiler would not know the page's size, and would not unroll the loop of a whole page.
+    program_page(&mut array[page.from..page.from + 256], place % 256, sent);
     page
 }
 
@@ -59,7 +69,8 @@ fn program_once(register: &mut [u8], input: &[u8])
     requires { length register.old ≡ 128 }
     ensures { register.new ≡ each (cell_of (on_register Action.Otp input.now)) register.old }
 {
-    program_page(register, 64, 0, address_of(input) % 64, input, 4);
+    let start = address_of(input) % 64;
+    program_page(&mut register[0..64], start, behind(input, 4));
 }
 
 // How many bytes a region has, in an array of that size.

@@ -36,7 +36,8 @@ pub struct Line<'a> {
     ghost register_has_bytes: { 0 < length register.now },
 }
 
-// The positions that a read drives: from `first` up to, not including, `end`.
+// The positions that a read drives: from `first` up to, not including, `end`. They are named in the whole output, here
+// and in `clip`, since the definitions `drive_at` and `read_at` count positions from the frame's first.
 #[derive(Clone, Copy)]
 struct Driven {
     first: usize,

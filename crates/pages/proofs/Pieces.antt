@@ -1,17 +1,18 @@
 -- Parts of a list, and what ANDing one into a memory does. Assumes nothing.
-use Prim.Native.Nat.{ℕ, ◌+◌, ◌-◌, ◌<◌, ◌≤◌, min}
+use Prim.Native.Nat.{ℕ, ◌+◌, ◌-◌, ◌<◌, ◌≤◌}
 use mathlib.Core.List.{List}
 use mathlib.Core.Path.{◌≡◌, sym, ap, ◌∙◌}
 use native.Mathlib.Decide.{dec_lt}
 use native.Mathlib.Nat.{add-zero, add_assoc}
 use native.Mathlib.Omega.{arith}
 use lib.Bits.{bit_and}
-use lib.ListN.{length, get_or, set, take, drop, length-drop, drop_of_length-le}
-use lib.Seq.{get_or-take, get_or-drop, length-take-le, take_all}
+use borrow.Rule.Slice.PartMut.{put_mid}
+use lib.ListN.{length, get_or, set, take, drop, length-drop}
+use lib.Seq.{get_or-take, get_or-drop, length-take-le}
 use Rattle.cells.specs.Each.{each}
 use Rattle.pages.specs.Page.{anded_in}
 use Rattle.cells.proofs.Places.{each_alike, each_same, over_in, over_out}
-use Rattle.cells.proofs.Runs.{Reached, begins, goes_on, ends, range_in, range_before, range_behind}
+use Rattle.cells.proofs.Runs.{Reached, begins, goes_on, ends, range_in, range_before, range_behind, put_each}
 
 -- the piece of a list from one place up to another
 abbrev pub piece : ℕ → ℕ → List ℕ → List ℕ
@@ -22,17 +23,6 @@ piece_long from to xs l = length-take-le (to - from) (drop from xs) (omega (arit
 
 pub piece_at : (from to : ℕ) (xs : List ℕ) (j : ℕ) → j < to - from → get_or (piece from to xs) j 0 ≡ get_or xs (from + j) 0
 piece_at from to xs j l = get_or-take (to - from) (drop from xs) j 0 l ∙ get_or-drop from xs j 0
-
--- from its end on a list is as empty as from any place behind it
-pub from_the_end : (at from : ℕ) (xs : List ℕ) → at ≡ min from (length xs) → piece at (length xs) xs ≡ drop from xs
-from_the_end at from xs e = take_all (length xs - at) (drop at xs) (omega (arith, length-drop at xs)) ∙ by (dec_lt from (length xs))
-  where
-    by : Dec (from < length xs) → drop at xs ≡ drop from xs
-    by (yes l) = let q : at ≡ from = omega arith in ap (λ (n : ℕ). drop n xs) q
-    by (no l) =
-        let past : length xs ≤ from = omega arith in
-        let end : length xs ≤ at = omega arith in
-        drop_of_length-le xs end ∙ sym (drop_of_length-le xs past)
 
 -- What is ANDed in from `at` on, at a place of it, before it and behind it.
 module _ (at : ℕ) (buffer : List ℕ) (k x : ℕ) where
@@ -75,3 +65,16 @@ none_left at buffer xs e =
     by : (k x : ℕ) → Dec (k < at) → anded_in at buffer k x ≡ x
     by k x (yes m) = not_before at buffer k x m
     by k x (no m) = not_behind at buffer k x (omega arith)
+
+-- data ANDed into the part behind a place is ANDed in from that place on
+pub anded_behind : (at : ℕ) (buffer xs : List ℕ) → at + length buffer ≤ length xs
+    → put_mid at (length xs - at) xs (each (anded_in 0 buffer) (take (length xs - at) (drop at xs))) ≡ each (anded_in at buffer) xs
+anded_behind at buffer xs fits =
+    put_each at (length xs) (anded_in 0 buffer) (anded_in at buffer) xs (omega arith) (omega arith)
+    (λ k x l m. by k x l (dec_lt (k - at) (length buffer)))
+    (λ k x l. not_before at buffer k x l) (λ k x l. not_behind at buffer k x (omega arith))
+  where
+    by : (k x : ℕ) → at ≤ k → Dec (k - at < length buffer) → anded_in 0 buffer (k - at) x ≡ anded_in at buffer k x
+    by k x l (yes m) =
+        anded_there 0 buffer (k - at) x (k - at) (omega arith) m ∙ sym (anded_there at buffer k x (k - at) (omega arith) m)
+    by k x l (no m) = not_behind 0 buffer (k - at) x (omega arith) ∙ sym (not_behind at buffer k x (omega arith))

@@ -2,7 +2,7 @@
 -- said over the page's size. Assumes nothing.
 use Prim.Native.Nat.{ℕ, zero, suc, ◌+◌, ◌-◌, ◌%◌, ◌<◌, ◌≤◌}
 use mathlib.Core.Bool.{Bool, true, false, true≢false, false≢true, cond, ◌||◌, or-true}
-use mathlib.Core.List.{List}
+use mathlib.Core.List.{List, ◌++◌}
 use mathlib.Core.Path.{◌≡◌, refl, sym, ap, ◌∙◌}
 use native.Mathlib.Decide.{ℕ_discrete}
 use native.Mathlib.Nat.{add-zero, add-suc, add_assoc, not-suc-le-zero}
@@ -12,6 +12,7 @@ use borrow.Author.Tests.{eq-eqb}
 use lib.Bits.{bit_and, and_mask}
 use lib.ListN.{length, get_or, take, drop, replicate, length-replicate, get_or-replicate}
 use lib.Seq.{get_or-take, get_or-drop, length-take-le}
+use Rattle.std.proofs.lemmas.List.{take-replicate, take-append-le}
 use Rattle.cells.specs.Each.{each, over}
 use Rattle.cells.specs.Range.{range}
 use Rattle.pages.specs.Page.{aims, covered, last, loaded, anded_in, programmed}
@@ -76,6 +77,19 @@ module _ (size start width : ℕ) (sent whole : List ℕ)
     buffered =
         each_alike (anded_in page buffer) (programmed size page start sent) xs
         (λ k l. placed k (get_or xs k 0) (bytes k) (range page (page + size) k) refl)
+
+-- the same of a page buffer that is the front of a longer one
+pub buffered_in_front : (width start : ℕ) (sent front rest xs : List ℕ) → length xs ≤ width
+    → front ≡ each (loaded (length {A = ℕ} (take (length xs) (replicate width 255))) start sent) (take (length xs) (replicate width 255))
+    → ((k : ℕ) → get_or xs k 0 < 256)
+    → each (anded_in 0 (take (length xs) (front ++ rest))) xs ≡ each (programmed (length xs) 0 start sent) xs
+buffered_in_front width start sent front rest xs fits filling bytes =
+    let n = length xs in
+    let filled : front ≡ each (loaded n start sent) (replicate n 255) =
+    rw (take-replicate {X = ℕ} n width 255 fits, length-replicate {A = ℕ} n 255) at filling in
+    let long : length front ≡ n =
+    ap length filled ∙ (length-each (loaded n start sent) (replicate n 255) ∙ length-replicate n 255) in
+    rw (take-append-le n front rest (omega (arith, long))) (buffered n start n sent front filled (omega arith) 0 xs bytes)
 
 -- The data in two pieces: the second one replaces what the first one left.
 last_split : (size start : ℕ) (sent : List ℕ) (m n p x : ℕ)

@@ -51,7 +51,8 @@ impl Settings {
         self.ticks[kind.place()]
     }
 
-    // Whether a duration is 0 or too long, which is refusal 7.
+    // Whether a duration is 0 or too long, which is refusal 7. Each call asks; so it is written into its callers.
+    #[inline(always)]
     pub fn is_unfair(self) -> bool
         ensures { result ≡ any_unfair self.ticks }
     {

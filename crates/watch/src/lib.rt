@@ -10,7 +10,7 @@ use ledger::LIMIT;
 // No call raises a word by more: the longest that an operation may take, in ticks.
 const LONGEST: u64 = 60000000;
 
-// The largest word of both tables.
+// The largest word of both tables that refusal 9 asks for.
 pub fn largest<'a>(totals: &'a [u64; 256], numbers: &'a [u64; 256]) -> u64
     ensures { result ≡ spec.top totals.now numbers.now }
 {

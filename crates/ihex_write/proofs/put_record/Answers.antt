@@ -5,7 +5,9 @@ use Rattle.ihex_write.proofs.put_record.Goals as goal
 
 pub returns : goal.returns
 returns c =
+    let kind = rw c.number-number.ensures at c.put_byte-4.ensures in
+    let check = rw (c.from.ensures, c.number-number.ensures) at c.put_byte-5.ensures in
     record_put _ _ _ _ _ _ _ _ _ _ _ _ _ refl c.put_bytes-total.ensures.value
-    c.put_byte.ensures c.put_byte-2.ensures c.put_byte-3.ensures c.put_byte-4.ensures
+    c.put_byte.ensures c.put_byte-2.ensures c.put_byte-3.ensures kind
     c.put_bytes-total.ensures.output_after
-    c.put_byte-5.ensures
+    check

@@ -1,7 +1,6 @@
 -- `pages::and_four` meets its contract: four stores, each of an old byte ANDed. Assumes nothing.
-use Rattle.std.proofs.Common.{add-zero}
 use Rattle.pages.proofs.Pieces.{in_four}
 use Rattle.pages.proofs.and_four.Goals as goal
 
 pub returns : goal.returns
-returns c = rw (add-zero c.args.at) at (in_four c.args.at c.args.sent.now c.args.memory.now c.requires.1 c.requires.0)
+returns c = in_four 0 c.args.sent.now c.args.bytes.now c.requires.1 c.requires.0

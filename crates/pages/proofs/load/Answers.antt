@@ -24,7 +24,7 @@ loop-part-preserved c =
     let part = c.in-Some.part.now in
     let rest = chunks_rest c.next.new.self in
     let left = chunks_rest c.loop-part.part-iterator in
-    let long : length part ≡ min c.args.size (length left) = rw i.size at steps.1.1 in
+    let long : length part ≡ min (length c.args.buffer.now) (length left) = rw i.size at steps.1.1 in
     record {
       can_next = search rules;
       is_finite = tt;
