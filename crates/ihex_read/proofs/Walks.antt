@@ -19,13 +19,12 @@ use Rattle.ihex_read.proofs.Lines.{lines_at_lem, place_long, place_next, place_s
 pub record Walk (text : List ℕ) (size at upper : ℕ) : Type 0 where
   pub line : ℕ
   pub inside : at ≤ length text
-  pub small : upper < 65536
   pub place : place_of line text ≡ at
   pub same : judged size upper line (lines_in (drop at text)) ≡ judged_in text size
 
 pub sets_out : (text : List ℕ) (size : ℕ) → Walk text size 0 0
 unfolding place_of
-sets_out text size = record { line = 0; inside = omega arith; small = omega arith; place = refl; same = refl }
+sets_out text size = record { line = 0; inside = omega arith; place = refl; same = refl }
 
 -- the judgement of a text, with the place of its line
 abbrev answer : List ℕ → ℕ → Told
@@ -95,14 +94,13 @@ module _ {text : List ℕ} {size at upper : ℕ} (w : Walk text size at upper) w
       by (line ∷ lines) x = absurd (omega arith)
 
   -- behind any other good line the walk goes on
-  pub goes_on : at < length text → fault_of size upper (line_at text at) ≡ 0 → (kind_of (line_at text at) ≡ 1 → ⊥) → upper_behind upper (line_at text at) < 65536
+  pub goes_on : at < length text → fault_of size upper (line_at text at) ≡ 0 → (kind_of (line_at text at) ≡ 1 → ⊥)
       → Walk text size next (upper_behind upper (line_at text at))
   unfolding judged
-  goes_on l f k s =
+  goes_on l f k =
       record {
         line = suc w.line;
         inside = next_inside;
-        small = s;
         place = next_place;
         same =
             sym (rw (eq-eqb (fault_of size upper (line_at text at)) 0 f, ne_eqb (kind_of (line_at text at)) 1 k)) ∙ here l;

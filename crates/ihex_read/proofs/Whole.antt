@@ -178,6 +178,10 @@ module _ (text : List ℕ) where
     pub same_byte : (k : ℕ) → k < asked text → byte_at line k ≡ byte_at text k
     same_byte k l = byte_line k (omega (arith, here))
 
+    -- so the line asks for as many
+    pub same_asked : asked line ≡ asked text
+    same_asked = ap (λ (n : ℕ). n + 5) (same_byte 0 (omega arith))
+
     -- what was read of one if it is a byte is the line's byte
     pub read_byte : (k : ℕ) {r : ℕ} → k < asked text → (byte_at text k < 256 → r ≡ byte_at text k) → r ≡ byte_at line k
     read_byte k l f = f (byte_small k l) ∙ sym (same_byte k l)

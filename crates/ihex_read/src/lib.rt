@@ -121,107 +121,136 @@ fn record_at(rest: &[u8]) -> Option<u32>
     tally(rest, end / 2)
 }
 
-// The type of a whole record, if it is one that is read.
-#[tactic(auto, using(crate::proofs::Whole::whole_some))]
-fn kind_at(rest: &[u8]) -> Option<Kind>
-    requires { is_whole (first (lines_in rest.now)) ≡ true }
-    ensures { result ≡ kind_named (kind_of (first (lines_in rest.now))) }
-{
-    Kind::try_from(byte_at(rest, 3)).ok()
+// A whole record: the text from its first character on.
+#[derive(Clone, Copy)]
+struct Record<'a> {
+    rest: &'a [u8],
+    ghost whole: { is_whole (first (lines_in rest.now)) ≡ true },
 }
 
-// Whether a whole record has that type.
-fn has_kind(rest: &[u8], kind: Kind) -> bool
-    requires { is_whole (first (lines_in rest.now)) ≡ true }
-    ensures { result ≡ eqb (kind_of (first (lines_in rest.now))) (kind_number kind) }
-{
-    kind_at(rest) == Some(kind)
-}
-
-// Whether a whole record has a length that its type may not have: the end record has no data, and type 04 two bytes.
-#[tactic(auto, using(crate::proofs::Whole::whole_some))]
-fn has_wrong_length(rest: &[u8]) -> bool
-    requires { is_whole (first (lines_in rest.now)) ≡ true }
-    ensures { result ≡ malformed (first (lines_in rest.now)) }
-{
-    let length = byte_at(rest, 0);
-    match kind_at(rest) {
-        Some(Kind::End) => length != 0,
-        Some(Kind::Upper) => length != 2,
-        _ => false,
+impl Record<'_> {
+    // Its byte k.
+    fn byte(&self, k: usize) -> u8
+        requires { k < asked (first (lines_in self.now.rest.now)) }
+        ensures { result ≡ byte_at (first (lines_in self.now.rest.now)) k }
+    {
+        byte_at(self.rest, k) as u8
     }
-}
 
-// The address that a whole record gives.
-#[tactic(auto, using(crate::proofs::Whole::whole_some))]
-fn address_at(rest: &[u8]) -> usize
-    requires { is_whole (first (lines_in rest.now)) ≡ true }
-    ensures value { result ≡ address_of (first (lines_in rest.now)) }
-    ensures upper_bound { result < 65536 }
-{
-    byte_at(rest, 1) * 256 + byte_at(rest, 2)
-}
+    // Its type, if it is one that is read.
+    fn kind(&self) -> Option<Kind>
+        ensures { result ≡ kind_named (kind_of (first (lines_in self.now.rest.now))) }
+    {
+        Kind::try_from(usize::from(self.byte(3))).ok()
+    }
 
-// Whether a whole record has data past its 64 KiB, or outside an array of that size.
-#[tactic(auto, using(crate::proofs::Whole::whole_some))]
-fn is_outside(rest: &[u8], upper: usize, size: usize) -> bool
-    requires { (is_whole (first (lines_in rest.now)) ≡ true) × (upper < 65536) }
-    ensures { result ≡ outside size upper (first (lines_in rest.now)) }
-{
-    let length = byte_at(rest, 0);
-    let address = address_at(rest);
-    has_kind(rest, Kind::Data)
-        && length != 0
-        && (65536 < address + length || size < upper * 65536 + address + length)
+    // Whether it has that type.
+    fn has_kind(&self, kind: Kind) -> bool
+        ensures { result ≡ eqb (kind_of (first (lines_in self.now.rest.now))) (kind_number kind) }
+    {
+        self.kind() == Some(kind)
+    }
+
+    // Whether it has a length that its type may not have: the end record has no data, and type 04 two bytes.
+    fn has_wrong_length(&self) -> bool
+        ensures { result ≡ malformed (first (lines_in self.now.rest.now)) }
+    {
+        let length = self.byte(0);
+        match self.kind() {
+            Some(Kind::End) => length != 0,
+            Some(Kind::Upper) => length != 2,
+            _ => false,
+        }
+    }
+
+    // The address that it gives.
+    fn address(&self) -> u16
+        ensures { result ≡ address_of (first (lines_in self.now.rest.now)) }
+    {
+        u16::from_be_bytes([self.byte(1), self.byte(2)])
+    }
+
+    // Whether it has data past its 64 KiB, or outside an array of that size.
+    fn is_outside(&self, upper: u16, size: usize) -> bool
+        ensures { result ≡ outside size upper (first (lines_in self.now.rest.now)) }
+    {
+        let length = usize::from(self.byte(0));
+        let address = usize::from(self.address());
+        self.has_kind(Kind::Data)
+            && length != 0
+            && (65536 < address + length || size < usize::from(upper) * 65536 + address + length)
+    }
+
+    // How far on the next line begins.
+    #[tactic(auto, using(crate::proofs::Whole::whole_some))]
+    fn next_line(&self) -> usize
+        ensures { result ≡ place_of 1 self.now.rest.now }
+    {
+        let rest = self.rest;
+        let end = 2 * usize::from(self.byte(0)) + 11;
+        if end == rest.len() {
+            return end;
+        }
+        if rest[end] == b'\n' { end + 1 } else { end + 2 }
+    }
+
+    // The upper part of the addresses behind it.
+    fn upper_behind(&self, upper: u16) -> u16
+        requires { malformed (first (lines_in self.now.rest.now)) ≡ false }
+        ensures { result ≡ upper_behind upper (first (lines_in self.now.rest.now)) }
+    {
+        if self.has_kind(Kind::Upper) {
+            u16::from_be_bytes([self.byte(4), self.byte(5)])
+        } else {
+            upper
+        }
+    }
+
+    // Its data goes to the array from `start` on.
+    fn lay(&self, array: &mut [u8], start: usize)
+        requires { (start < 8589934592) × (0 < length_of (first (lines_in self.now.rest.now)) →
+            start + length_of (first (lines_in self.now.rest.now)) ≤ length array.old) }
+        ensures { array.new ≡ each (laid start (first (lines_in self.now.rest.now))) array.old }
+    {
+        let end = start + usize::from(self.byte(0));
+        // by index: a record without data may begin behind the array's end, where no slice begins
+        for i in start..end {
+            array[i] = self.byte(i - start + 4);
+        }
+    }
+
+    // With data it is laid into the array; others leave it alone.
+    fn obey(&self, array: &mut [u8], upper: u16)
+        requires { fault_of (length array.old) upper (first (lines_in self.now.rest.now)) ≡ 0 }
+        ensures { array.new ≡ obeyed upper (first (lines_in self.now.rest.now)) array.old }
+    {
+        if self.has_kind(Kind::Data) {
+            let start = usize::from(upper) * 65536 + usize::from(self.address());
+            self.lay(array, start);
+        }
+    }
 }
 
 // Why that line is refused, if it is.
 #[tactic(auto, using(crate::proofs::Whole::whole_some))]
-fn fault_of(rest: &[u8], upper: usize, size: usize) -> Result<(), Refusal>
-    requires { upper < 65536 }
+fn fault_of(rest: &[u8], upper: u16, size: usize) -> Result<(), Refusal>
     ensures { number_in result ≡ fault_of size upper (first (lines_in rest.now)) }
 {
     let total = record_at(rest).ok_or(Refusal::HexRecord)?;
-    if has_wrong_length(rest) {
+    let record = Record { rest };
+    if record.has_wrong_length() {
         return Err(Refusal::HexRecord);
     }
     if total % 256 != 0 {
         return Err(Refusal::HexChecksum);
     }
-    if kind_at(rest).is_none() {
+    if record.kind().is_none() {
         return Err(Refusal::HexType);
     }
-    if is_outside(rest, upper, size) {
+    if record.is_outside(upper, size) {
         return Err(Refusal::HexOutside);
     }
     Ok(())
-}
-
-// How far on the line behind a whole one begins.
-#[tactic(auto, using(crate::proofs::Whole::whole_some))]
-fn next_line(rest: &[u8]) -> usize
-    requires { is_whole (first (lines_in rest.now)) ≡ true }
-    ensures { result ≡ place_of 1 rest.now }
-{
-    let end = 2 * byte_at(rest, 0) + 11;
-    if end == rest.len() {
-        return end;
-    }
-    if rest[end] == b'\n' { end + 1 } else { end + 2 }
-}
-
-// The upper part of the addresses behind a whole line.
-#[tactic(auto, using(crate::proofs::Whole::whole_some, crate::proofs::Faults::sound_whole))]
-fn upper_behind(rest: &[u8], upper: usize) -> usize
-    requires { (malformed (first (lines_in rest.now)) ≡ false) × (upper < 65536) }
-    ensures value { result ≡ upper_behind upper (first (lines_in rest.now)) }
-    ensures upper_bound { result < 65536 }
-{
-    if has_kind(rest, Kind::Upper) {
-        byte_at(rest, 4) * 256 + byte_at(rest, 5)
-    } else {
-        upper
-    }
 }
 
 // What is said of a text whose end record ends at `at`.
@@ -251,11 +280,12 @@ fn judge(text: &[u8], size: usize) -> Result<(), Fault>
         if let Err(refusal) = fault_of(rest, upper, size) {
             return Err(Fault { refusal, place: at });
         }
-        let next = at + next_line(rest);
-        if has_kind(rest, Kind::End) {
+        let record = Record { rest };
+        let next = at + record.next_line();
+        if record.has_kind(Kind::End) {
             return end_at(text, next);
         }
-        upper = upper_behind(rest, upper);
+        upper = record.upper_behind(upper);
         at = next;
     }
     Err(Fault {
@@ -264,48 +294,22 @@ fn judge(text: &[u8], size: usize) -> Result<(), Fault>
     })
 }
 
-// The data of the record on that line goes to the array from `start` on.
-#[tactic(auto, using(crate::proofs::Whole::whole_some))]
-fn lay(array: &mut [u8], start: usize, rest: &[u8])
-    requires { (is_whole (first (lines_in rest.now)) ≡ true) × (start < 8589934592) ×
-        (0 < length_of (first (lines_in rest.now)) → start + length_of (first (lines_in rest.now)) ≤ length array.old) }
-    ensures { array.new ≡ each (laid start (first (lines_in rest.now))) array.old }
-{
-    let end = start + byte_at(rest, 0);
-    // by index: a record without data may begin behind the array's end, where no slice begins
-    for i in start..end {
-        array[i] = byte_at(rest, i - start + 4) as u8;
-    }
-}
-
-// A record with data is laid into the array; the others leave it alone.
-#[tactic(auto, using(crate::proofs::Whole::whole_some, crate::proofs::Faults::good_whole))]
-fn obey(array: &mut [u8], rest: &[u8], upper: usize)
-    requires { (fault_of (length array.old) upper (first (lines_in rest.now)) ≡ 0) × (upper < 65536) }
-    ensures { array.new ≡ obeyed upper (first (lines_in rest.now)) array.old }
-{
-    if has_kind(rest, Kind::Data) {
-        let start = upper * 65536 + address_at(rest);
-        lay(array, start, rest);
-    }
-}
-
 // The second walk: the records of a text that is not refused.
 fn carry_out(array: &mut [u8], text: &[u8])
     requires { (judged_in text.now (length array.old)).refusal ≡ 0 }
     ensures { array.new ≡ carried 0 (lines_in text.now) array.old }
 {
-    let mut at = 0;
+    let mut rest = text;
     let mut upper = 0;
     // a line's own length says where the next one begins, so no range counts it
-    while at < text.len() {
-        let rest = &text[at..];
-        if has_kind(rest, Kind::End) {
+    while !rest.is_empty() {
+        let record = Record { rest };
+        if record.has_kind(Kind::End) {
             return;
         }
-        obey(array, rest, upper);
-        at += next_line(rest);
-        upper = upper_behind(rest, upper);
+        record.obey(array, upper);
+        upper = record.upper_behind(upper);
+        rest = &rest[record.next_line()..];
     }
 }
 

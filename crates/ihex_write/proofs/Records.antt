@@ -1,10 +1,12 @@
 -- The laws of a record's line and its LF: how long they are, and their pieces stored one behind the other. Assumes nothing.
-use Prim.Native.Nat.{ℕ, ◌+◌, ◌-◌, ◌*◌, ◌/◌, ◌%◌}
+use Prim.Native.Nat.{ℕ, zero, suc, ◌+◌, ◌-◌, ◌*◌, ◌/◌, ◌%◌, ◌<◌}
 use mathlib.Core.List.{List, [], ◌∷◌, ◌++◌}
 use mathlib.Core.Path.{◌≡◌, refl, ap, ◌∙◌}
 use native.Mathlib.Omega.{arith}
-use lib.ListN.{length, set, length-append}
+use lib.ListN.{length, get_or, set, length-append}
 use lib.Seq.{sets}
+use Rattle.std.specs.Int.{to_be_bytes, w16}
+use Rattle.std.proofs.lemmas.Nat.{be_bytes_2}
 use Rattle.ihex_layout.specs.Layout.{colon, line_feed, digits, sum, checksum, fields, record_line}
 use Rattle.ihex_write.proofs.Stores.{Received, one_more}
 use Rattle.ihex_layout.proofs.Digits.{digits_append, length_digits}
@@ -16,6 +18,16 @@ length-line address kind content =
     let check : ℕ = checksum (fields address kind content) in
     let all : List ℕ = fields address kind content ++ check ∷ [] in
     omega (arith, length-append (digits all) (line_feed ∷ []), length_digits all, length-append content (check ∷ []))
+
+-- the two bytes of a 16-bit number, the high one first
+pub two_bytes : (n : ℕ) → n < 65536 → to_be_bytes w16 n ≡ n / 256 ∷ n % 256 ∷ []
+two_bytes n l =
+    be_bytes_2 (n / 256 ∷ n % 256 ∷ []) n refl (λ i. small i) (omega arith)
+  where
+    small : (i : ℕ) → get_or (n / 256 ∷ n % 256 ∷ []) i 0 < 256
+    small zero = omega arith
+    small (suc zero) = omega arith
+    small (suc (suc i)) = omega arith
 
 -- the pieces: the colon, the length, the address, the type, the data, the checksum and LF
 pieces : (address kind : ℕ) (content : List ℕ)

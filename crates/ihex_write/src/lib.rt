@@ -21,7 +21,8 @@ fn digit(n: u8) -> u8
     if n < 10 { b'0' + n } else { b'A' + (n - 10) }
 }
 
-// Below, a piece goes into the output from `at` on: a slice for each piece would name its end at each call as well.
+// Below, a piece goes into the output from `at` on: with slices each call would cut one, as
+// `put_byte(&mut output[at + 3..], high)`, and count its place all the same, which is no plainer.
 
 // The pair of digits for a byte.
 #[tactic(auto, unfolding(ihex_layout::specs::Layout::digits))]
@@ -49,30 +50,30 @@ fn put_bytes(output: &mut [u8], at: usize, bytes: &[u8]) -> usize
 }
 
 // A record and its LF.
-fn put_record(output: &mut [u8], at: usize, address: usize, kind: Kind, content: &[u8])
-    requires { (at + 2 * length content.now + 12 ≤ length output.old) × (address < 65536) × (length content.now < 256) }
+fn put_record(output: &mut [u8], at: usize, address: u16, kind: Kind, content: &[u8])
+    requires { (at + 2 * length content.now + 12 ≤ length output.old) × (length content.now < 256) }
     ensures { output.new ≡ sets output.old at (record_line address (kind_number kind) content.now ++ line_feed ∷ []) }
 {
     let count = content.len();
+    let [high, low] = address.to_be_bytes();
     let number = kind.number();
     output[at] = b':';
     put_byte(output, at + 1, count as u8);
-    put_byte(output, at + 3, (address / 256) as u8);
-    put_byte(output, at + 5, (address % 256) as u8);
+    put_byte(output, at + 3, high);
+    put_byte(output, at + 5, low);
     put_byte(output, at + 7, number);
     let total = put_bytes(output, at + 9, content);
-    let all = count + (address / 256 + (address % 256 + (usize::from(number) + total)));
+    let all = count + (usize::from(high) + (usize::from(low) + (usize::from(number) + total)));
     put_byte(output, at + 9 + 2 * count, ((256 - all % 256) % 256) as u8);
     output[at + 11 + 2 * count] = b'\n';
 }
 
 // The record of type 04 with the upper part of the addresses that follow.
-fn put_upper(output: &mut [u8], at: usize, upper: usize)
-    requires { (at + 16 ≤ length output.old) × (upper < 65536) }
+fn put_upper(output: &mut [u8], at: usize, upper: u16)
+    requires { at + 16 ≤ length output.old }
     ensures { output.new ≡ sets output.old at (upper_line upper ++ line_feed ∷ []) }
 {
-    let bytes = [(upper / 256) as u8, (upper % 256) as u8];
-    put_record(output, at, 0, Kind::Upper, &bytes);
+    put_record(output, at, 0, Kind::Upper, &upper.to_be_bytes());
 }
 
 // The records for 16 bytes of the array from `from` on: where 64 KiB begin, one of type 04 comes first. The answer is
@@ -84,12 +85,13 @@ fn put_row(output: &mut [u8], at: usize, array: &[u8], from: usize) -> usize
     ensures output_after { output.new ≡ sets output.old at (joined (lines_at array.now from)) }
 {
     let bytes = &array[from..from + 16];
+    let address = (from % 65536) as u16;
     if from % 65536 == 0 {
-        put_upper(output, at, from / 65536);
-        put_record(output, at + 16, from % 65536, Kind::Data, bytes);
+        put_upper(output, at, (from / 65536) as u16);
+        put_record(output, at + 16, address, Kind::Data, bytes);
         return at + 60;
     }
-    put_record(output, at, from % 65536, Kind::Data, bytes);
+    put_record(output, at, address, Kind::Data, bytes);
     at + 44
 }
 

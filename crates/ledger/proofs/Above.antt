@@ -1,16 +1,17 @@
 -- An entry above the limit, among those of the first accounts. Assumes nothing.
 use Prim.Native.Nat.{ℕ, zero, suc, ◌<◌, ◌≤◌}
-use mathlib.Core.Bool.{true, false, true≢false, ◌||◌, or-true}
-use mathlib.Core.List.{List}
-use mathlib.Core.Path.{◌≡◌, sym, subst, ◌∙◌}
+use mathlib.Core.Bool.{Bool, true, false, true≢false, ◌||◌, or-true}
+use mathlib.Core.List.{List, [], ◌∷◌}
+use mathlib.Core.Path.{◌≡◌, refl, sym, ap, subst, ◌∙◌}
 use native.Mathlib.Decide.{ℕ_discrete, dec_le}
 use native.Mathlib.Nat.{not-suc-le-zero, le_refl, le_trans, le_of_eq, add-le-add, add-le-add_iff_right}
 use native.Mathlib.Omega.{arith}
 use borrow.Author.Tests.{lt-ltb, le-ltb}
 use lib.Bits.{bit_or, or_add_and, and_le_r, or_comm}
 use lib.Dec.{ltb}
-use lib.ListN.{get_or}
-use Rattle.ledger.specs.Ledger.{limit, above_before}
+use lib.ListN.{get_or, length}
+use Rattle.std.specs.List.{list_any}
+use Rattle.ledger.specs.Ledger.{limit, above_before, any_above}
 
 -- one is found
 pub found : (n k : ℕ) (table : List ℕ) → k < n → limit < get_or table k 0 → above_before n table ≡ true
@@ -29,6 +30,27 @@ none_above n k table l e = by (dec_le (get_or table k 0) limit)
     by : Dec (get_or table k 0 ≤ limit) → get_or table k 0 ≤ limit
     by (yes m) = m
     by (no m) = absurd (true≢false (sym (found n k table l (omega arith)) ∙ e))
+
+-- the first word and the others
+first_and_others : (n x : ℕ) (xs : List ℕ) → above_before (suc n) (x ∷ xs) ≡ ltb limit x || above_before n xs
+unfolding above_before
+first_and_others zero x xs = refl
+first_and_others (suc n) x xs =
+    rw (first_and_others n x xs) (swapped (ltb limit (get_or xs n 0)) (ltb limit x) (above_before n xs))
+  where
+    swapped : (a b c : Bool) → a || (b || c) ≡ b || (a || c)
+    swapped true true c = refl
+    swapped true false c = refl
+    swapped false b c = refl
+
+-- a test of each word is the test of as many
+tested : (table : List ℕ) → list_any (ltb limit) table ≡ above_before (length table) table
+unfolding above_before
+tested [] = refl
+tested (x ∷ xs) = ap (λ (rest : Bool). ltb limit x || rest) (tested xs) ∙ sym (first_and_others (length xs) x xs)
+
+pub any_is : (table : List ℕ) → length table ≡ 256 → list_any (ltb limit) table ≡ any_above table
+any_is table whole = subst (λ (n : ℕ). list_any (ltb limit) table ≡ above_before n table) whole (tested table)
 
 -- a number is not above what has all its bits
 pub or_left : (a b : ℕ) → a ≤ bit_or a b

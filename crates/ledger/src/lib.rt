@@ -3,9 +3,7 @@
 #![tactic(auto)]
 
 ghost use Rattle.std.specs.Prelude.{false, not, ◌||◌, ◌≡◌, suc, ◌+◌, ◌*◌, ◌<◌, ◌≤◌, min, replicate};
-ghost use lib.Text.{eqt};
 ghost use Rattle.refusals.specs.Refusals.{number_in};
-ghost use Rattle.part.specs.Words.{word_of};
 ghost use Rattle.part.specs.Frame.{reply_of};
 ghost use Rattle.ledger.specs.Lent.{ledger_of, SameTables};
 ghost use Rattle.ledger.specs.Ledger as spec;
@@ -65,23 +63,18 @@ fn gathered<'a>(table: &'a [u64; 256], also: &'a [u64; 256]) -> u64
 {
     let mut one = 0;
     let mut two = 0;
-    for i in 0..256 {
-        one |= table[i];
-        two |= also[i];
+    for (word, other) in table.iter().zip(also) {
+        one |= word;
+        two |= other;
     }
     one | two
 }
 
-// Whether any word of a table is above the limit, word by word.
+// Whether any word of a table is above the limit.
 fn has_above(table: &[u64; 256]) -> bool
     ensures { result ≡ spec.any_above table.now }
 {
-    for word in table {
-        if LIMIT < *word {
-            return true;
-        }
-    }
-    false
+    table.iter().any(|&word| LIMIT < word)
 }
 
 // Whether any word of two tables is. Where all their bits together are not above the limit, none is.
@@ -111,13 +104,6 @@ fn came_off(busy: u64, signals: Signals) -> u64
     let positions = bytes_for(signals.bits);
     let ticks = positions.saturating_mul(signals.pace);
     signals.elapsed.saturating_add(ticks).min(busy)
-}
-
-// Whether an operation was begun.
-fn is_begun(outcome: Outcome) -> bool
-    ensures { result ≡ eqt (word_of outcome) "begun" }
-{
-    matches!(outcome, Outcome::Begun)
 }
 
 impl Ledger<'_> {
@@ -160,7 +146,7 @@ impl Ledger<'_> {
         if let Ok(answer) = came {
             let ticks = came_off(call.device.busy, call.signals);
             self.charge(ticks);
-            if is_begun(answer.outcome) {
+            if answer.outcome == Outcome::Begun {
                 self.start(account);
             } else if answer.device.busy == 0 {
                 self.running = nobody();

@@ -78,6 +78,6 @@ pub fn frame_watched(
     let numbers = &mut *ledger.numbers;
     let known = watched(*bound, totals, numbers);
     *bound = raised(known);
-    let shut = !(account < ACCOUNTS) | (LIMIT < known);
+    let shut = ACCOUNTS <= account || LIMIT < known;
     frame_knowing(shut, call, lent, account, ledger)
 }

@@ -6,17 +6,15 @@ ghost use Rattle.std.specs.Prelude.{◌≡◌};
 ghost use Rattle.watch.specs.Watch as spec;
 
 use ledger::LIMIT;
-
-// No call raises a word by more: the longest that an operation may take, in ticks.
-const LONGEST: u64 = 60000000;
+use settings::LONGEST;
 
 // The largest word of both tables that refusal 9 asks for.
 pub fn largest<'a>(totals: &'a [u64; 256], numbers: &'a [u64; 256]) -> u64
     ensures { result ≡ spec.top totals.now numbers.now }
 {
     let mut top = 0;
-    for i in 0..256 {
-        top = totals[i].max(numbers[i]).max(top);
+    for (total, number) in totals.iter().zip(numbers) {
+        top = (*total).max(*number).max(top);
     }
     top
 }
@@ -32,7 +30,8 @@ pub fn watched<'a>(bound: u64, totals: &'a [u64; 256], numbers: &'a [u64; 256]) 
     bound
 }
 
-// A bound after one call more. Above the limit it stays: then no call is accepted.
+// A bound after one call more: no call raises a word by more than the longest that an operation may take. Above the
+// limit the bound stays: then no call is accepted.
 pub fn raised(bound: u64) -> u64
     ensures { result ≡ spec.raised bound }
 {

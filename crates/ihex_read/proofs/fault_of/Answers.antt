@@ -24,8 +24,8 @@ returns-in_err-total c =
     let told = ap (λ (r : Result ℕ Refusal). number_in r) (rw none at c.in_err-total.ensures.value) in
     rw (p.1, p.2, found_none _ (sym c.record_at.ensures ∙ none)) told
 
-pub has_wrong_length-requires : goal.has_wrong_length-requires
-has_wrong_length-requires c = (whole (goal.at.has_wrong_length-requires c).In_ok-total).0
+pub invariant_of-record : goal.invariant_of-record
+invariant_of-record c = record { whole = (whole (goal.at.invariant_of-record c).In_ok-total).0 }
 
 pub returns-then-has_wrong_length : goal.returns-then-has_wrong_length
 unfolding fault_of
@@ -37,9 +37,6 @@ returns-then-total-ne0 c =
     let sum = (whole (goal.at.returns-then-total-ne0 c).In_ok-total).1 in
     rw (← c.has_wrong_length.ensures, c.if-has_wrong_length.false, ← sum, ne_eqb _ _ c.if-total-ne0.true)
 
-pub kind_at-requires : goal.kind_at-requires
-kind_at-requires c = (whole (goal.at.kind_at-requires c).In_ok-total).0
-
 pub returns-then-is_none : goal.returns-then-is_none
 unfolding fault_of
 returns-then-is_none c =
@@ -50,13 +47,10 @@ returns-then-is_none c =
       ← sum,
       eq-eqb _ _ c.if-total-ne0.false,
       ← names_none,
-      ← c.kind_at.ensures,
+      ← c.kind.ensures,
       c.is_none.ensures,
       c.if-is_none.true,
     )
-
-pub is_outside-requires : goal.is_outside-requires
-is_outside-requires c = ((whole (goal.at.is_outside-requires c).In_ok-total).0, c.requires)
 
 pub returns-then-is_outside : goal.returns-then-is_outside
 unfolding fault_of
@@ -68,7 +62,7 @@ returns-then-is_outside c =
       ← sum,
       eq-eqb _ _ c.if-total-ne0.false,
       ← names_none,
-      ← c.kind_at.ensures,
+      ← c.kind.ensures,
       c.is_none.ensures,
       c.if-is_none.false,
       ← c.is_outside.ensures,
@@ -85,7 +79,7 @@ returns c =
       ← sum,
       eq-eqb _ _ c.if-total-ne0.false,
       ← names_none,
-      ← c.kind_at.ensures,
+      ← c.kind.ensures,
       c.is_none.ensures,
       c.if-is_none.false,
       ← c.is_outside.ensures,

@@ -22,18 +22,14 @@ returns-in-Err c =
     let fault = rw (to_end c.args.text.now c.loop-at.at) at c.in-Err.ensures in
     rw fault (stops c.loop-at.invariant c.loop-at-test.true (λ z. never_0 c.in-Err.refusal (fault ∙ z)))
 
-pub next_line-requires : goal.next_line-requires
-next_line-requires c =
+pub invariant_of-record : goal.invariant_of-record
+invariant_of-record c =
     rw (to_end c.args.text.now c.loop-at.at)
-    (good_whole _ _ _ (good (goal.at.next_line-requires c).In_default))
+    (record { whole = good_whole _ _ _ (good (goal.at.invariant_of-record c).In_default) })
 
 pub overflow_add-next : goal.overflow_add-next
 overflow_add-next c =
     omega (arith, rw (to_end c.args.text.now c.loop-at.at) at c.next_line.ensures, next_inside c.loop-at.invariant)
-
-pub has_kind-requires : goal.has_kind-requires
-has_kind-requires c =
-    rw (to_end c.args.text.now c.loop-at.at) (good_whole _ _ _ (good (goal.at.has_kind-requires c).In_default))
 
 pub end_at-requires : goal.end_at-requires
 end_at-requires c =
@@ -49,7 +45,7 @@ returns-then-has_kind c =
 pub upper_behind-upper-requires : goal.upper_behind-upper-requires
 upper_behind-upper-requires c =
     rw (to_end c.args.text.now c.loop-at.at)
-    (sound _ _ _ (good (goal.at.upper_behind-upper-requires c).In_default), c.loop-at.invariant.small)
+    (sound _ _ _ (good (goal.at.upper_behind-upper-requires c).In_default))
 
 pub loop-at-smaller : goal.loop-at-smaller
 loop-at-smaller c =
@@ -64,11 +60,10 @@ pub loop-at-preserved : goal.loop-at-preserved
 loop-at-preserved c =
     let f = good (goal.at.loop-at-preserved c).In_default in
     let next = rw (to_end c.args.text.now c.loop-at.at) at c.next_line.ensures in
-    let upper = rw (to_end c.args.text.now c.loop-at.at) at c.upper_behind-upper.ensures.value in
+    let upper = rw (to_end c.args.text.now c.loop-at.at) at c.upper_behind-upper.ensures in
     let kind = rw (to_end c.args.text.now c.loop-at.at) at (sym c.has_kind.ensures ∙ c.if-has_kind.false) in
     rw (next, upper)
-    (goes_on c.loop-at.invariant c.loop-at-test.true f (eqb-false _ _ kind)
-    (rw upper at c.upper_behind-upper.ensures.upper_bound))
+    (goes_on c.loop-at.invariant c.loop-at-test.true f (eqb-false _ _ kind))
 
 pub returns : goal.returns
 returns c = runs_out c.loop-at.invariant c.loop-at-test.false

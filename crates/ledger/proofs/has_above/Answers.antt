@@ -1,18 +1,13 @@
--- `ledger::has_above` meets its contract: none of the words so far is above the limit. Assumes nothing.
-use Rattle.std.proofs.Common.{refl, sym, add-one, le-ltb}
-use Rattle.ledger.specs.Ledger.{above_before}
-use Rattle.ledger.proofs.Above.{found}
+-- `ledger::has_above` meets its contract: a test of each word is the table's. Assumes nothing.
+use Rattle.std.proofs.Common.{ltb, rules, tests, ◌∙◌}
+use Rattle.std.proofs.lemmas.Iterator.{YieldsList-from_slice}
+use Rattle.std.proofs.lemmas.Iterator.Search.{any_from_yields_List}
+use Rattle.ledger.specs.Ledger.{limit}
+use Rattle.ledger.proofs.Above.{any_is}
 use Rattle.ledger.proofs.has_above.Goals as goal
 
-pub loop-word-init : goal.loop-word-init
-unfolding above_before
-loop-word-init c = refl
-
-pub returns-then-word-gt-LIMIT : goal.returns-then-word-gt-LIMIT
-returns-then-word-gt-LIMIT c =
-    sym (found 256 c.loop-word.word-index c.args.table.now c.loop-word-test.true c.if-word-gt-LIMIT.true)
-
-pub loop-word-preserved : goal.loop-word-preserved
-unfolding above_before
-loop-word-preserved c =
-    rw (add-one c.loop-word.word-index, le-ltb _ _ c.if-word-gt-LIMIT.false) c.loop-word.invariant
+pub returns : goal.returns
+returns c =
+    any_from_yields_List (ltb limit) _ _ _ c.any.ensures.ran (YieldsList-from_slice c.args.table.now cc)
+    (λ t b q k. search (rules, tests)) ∙
+    any_is c.args.table.now cc

@@ -1,7 +1,7 @@
 -- It is the largest of the words so far.
-use Rattle.std.proofs.Common.{◌≡◌}
+use Rattle.std.proofs.Common.{◌≡◌, length}
 use Rattle.watch.specs.Watch.{top_before}
 use Rattle.watch.proofs.largest.Given as goal
 
-abbrev pub invariant-loop-i : goal.invariant-loop-i
-invariant-loop-i l = l.top ≡ top_before l.i l.totals l.numbers
+abbrev pub invariant-loop-total : goal.invariant-loop-total
+invariant-loop-total l = l.top ≡ top_before (length l.yielded) l.totals l.numbers
