@@ -27,8 +27,10 @@ pub enough : (h : Handed) → is_call h ≡ true → (record_lent (length h.devi
 enough h right = ((record_right h.device (record_read h right)).long, (tests h right).1)
 
 -- a frame's result, told as words, is the face's
-pub as_told : (h : Handed) (m n : Lent) (d : Device) (s : Settings) (g : Signals) (a : Came) (number : ℕ) (device answer : List ℕ)
+pub as_told : (h : Handed) (m n : Lent) (d : Device) (s : Settings) (g : Signals) (a : Came) (number : ℕ)
+    (device answer : List ℕ)
     → d ≡ device_of h.device → s ≡ settings_of h.settings → g ≡ signals_of h.signals → Meets (call d s h.input g) m a n
-    → number ≡ (reply_of d a).refusal → device ≡ as_lent h.device (packed (reply_of d a).device) → answer ≡ as_lent h.answer (answer_of (reply_of d a))
+    → number ≡ (reply_of d a).refusal → device ≡ as_lent h.device (packed (reply_of d a).device)
+    → answer ≡ as_lent h.answer (answer_of (reply_of d a))
     → left number device answer n ≡ told h (frame (call_of h) m)
 as_told h m n d s g a number device answer p q t e x y z = rw (x, y, z, ← p, ← q, ← t) (ap (told h) e)

@@ -21,14 +21,17 @@ pub stands : (h : Handed) (k : Ticket) → is_call_for h k ≡ true → (is_call
 stands h k right = (and-eq-true_iff (is_call h) (is_running k.running)).0 right
 
 -- a frame's result, told as words, is the face's
-pub as_told_for : (h : Handed) (k : Ticket) (m n : Lent) (d : Device) (s : Settings) (g : Signals) (before after : Running) (a : Came) (number : ℕ)
+pub as_told_for : (h : Handed) (k : Ticket) (m n : Lent) (d : Device) (s : Settings) (g : Signals)
+    (before after : Running) (a : Came) (number : ℕ)
     (device answer running totals most numbers : List ℕ) → d ≡ device_of h.device → s ≡ settings_of h.settings → g ≡ signals_of h.signals
     → before ≡ running_of k.running
-    → Meets (call d s h.input g) m k.account (ledger k.totals k.most k.numbers before) (reply_of d a) n (ledger totals most numbers after)
+    → Meets (call d s h.input g) m k.account (ledger k.totals k.most k.numbers before) (reply_of d a) n
+    (ledger totals most numbers after)
     → number ≡ (reply_of d a).refusal → device ≡ as_lent h.device (packed (reply_of d a).device)
     → answer ≡ as_lent h.answer (answer_of (reply_of d a)) → running ≡ as_lent k.running (running_words after)
     → left_for (left number device answer n) running totals most numbers ≡ told h k (frame (call_of h) m k.account (ledger_of k))
-as_told_for h k m n d s g before after a number device answer running totals most numbers p q t w e x y z v = rw (x, y, z, v, ← p, ← q, ← t, ← w) (ap (told h k) e)
+as_told_for h k m n d s g before after a number device answer running totals most numbers p q t w e x y z v =
+    rw (x, y, z, v, ← p, ← q, ← t, ← w) (ap (told h k) e)
 
 -- what is left may be named in another way
 pub met_there : (c : Call) (m : Lent) (account : ℕ) (l : Ledger) (r : Reply) (n o : Lent) (k j : Ledger) → n ≡ o → k ≡ j

@@ -33,6 +33,7 @@ pub record Promises : Type 0 where
       → (is_running running ≡ false → closing running now old ≡ closed_with 255 running now old)
       × ((closing running now old).number ≡ 255 → is_running running ≡ false)
   -- a report that is refused writes nothing
-  pub report_kept : (r : Result Reported Refusal) (line : List ℕ) → report_number r line ≢ 0 → report_words r line ≡ line
+  pub report_kept : (r : Result Reported Refusal) (line : List ℕ) → report_number r line ≢ 0
+      → report_words r line ≡ line
   -- the running operation that comes back as words is the one that goes in with them
   pub same_running : (r : Running) → (is_running (running_words r) ≡ true) × (running_of (running_words r) ≡ r)

@@ -48,7 +48,8 @@ pub met : (c : Call) (m : Lent) (account : ℕ) (l : Ledger) (d : Device) (came 
     → Meets c m account l (reply_of d came) after kept → Meets c m account l (reply_of c.device came) after kept
 met c m account l d (Ok a) after kept e = e
 met c m account l d (Err refusal) after kept e =
-    ap {B = Result} (λ (d : Device). record { reply = reply_of d (Err refusal); lent = after; ledger = kept }) (sym same) ∙ e
+    ap {B = Result} (λ (d : Device). record { reply = reply_of d (Err refusal); lent = after; ledger = kept })
+    (sym same) ∙ e
   where
     same : d ≡ c.device
     same =
@@ -137,7 +138,13 @@ module _ (b : Booking) (t : Desk) where
 
   -- a call that meets the contract of the code
   pub made : Made
-  made = record { device = t.state.device; answer = came_to; lent = (result_of b t).lent; ledger = (result_of b t).ledger }
+  made =
+      record {
+        device = t.state.device;
+        answer = came_to;
+        lent = (result_of b t).lent;
+        ledger = (result_of b t).ledger;
+      }
 
   pub meets : made_of made ≡ result_of b t
   unfolding made

@@ -12,7 +12,8 @@ returns-then-is_record-is_settings c =
     let a = c.args in
     let h = handed a.device.now a.settings.now a.signals.now a.input.now a.answer.now in
     let right : is_call h ≡ true =
-    rw (← c.is_answer.ensures, ← c.is_signals.ensures, ← c.is_settings.ensures, ← c.is_record.ensures) c.if-is_record-is_settings.true in
+    rw (← c.is_answer.ensures, ← c.is_signals.ensures, ← c.is_settings.ensures, ← c.is_record.ensures)
+    c.if-is_record-is_settings.true in
     let m = lent a.array.now a.register.now a.output.now in
     let asked = call c.device_of.result c.settings_of.result a.input.now c.signals_of.result in
     rw right

@@ -10,7 +10,8 @@ returns-in-Ok c =
 pub returns-in-Err : goal.returns-in-Err
 returns-in-Err c =
     rw (c.from.ensures, c.number.ensures)
-    (tells_read _ _ _ _ _ c.in-Err.fault.place c.if-place-eq1.true c.in-Err.ensures.result_value c.read.ensures.array_after)
+    (tells_read _ _ _ _ _ c.in-Err.fault.place c.if-place-eq1.true c.in-Err.ensures.result_value
+    c.read.ensures.array_after)
 
 pub returns : goal.returns
 unfolding text_in

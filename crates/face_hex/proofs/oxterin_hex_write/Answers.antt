@@ -5,7 +5,8 @@ use Rattle.face_hex.proofs.oxterin_hex_write.Goals as goal
 
 pub returns-in-Ok : goal.returns-in-Ok
 returns-in-Ok c =
-    tells_written _ _ _ _ 0 c.in-Ok.written c.if-characters-eq1.true c.in-Ok.ensures.result_value c.write.ensures.output_after
+    tells_written _ _ _ _ 0 c.in-Ok.written c.if-characters-eq1.true c.in-Ok.ensures.result_value
+    c.write.ensures.output_after
 
 pub returns-in-Err : goal.returns-in-Err
 returns-in-Err c =

@@ -18,14 +18,22 @@ returns-then-is_record-is_settings c =
     let t = ticket a.account a.running.now a.totals.now a.most.now a.numbers.now in
     let m = lent a.array.now a.register.now a.output.now in
     let right : is_call_for h t ≡ true =
-    rw (← c.is_lent.ensures, ← c.is_answer.ensures, ← c.is_signals.ensures, ← c.is_settings.ensures, ← c.is_record.ensures) c.if-is_record-is_settings.true in
+    rw (
+      ← c.is_lent.ensures,
+      ← c.is_answer.ensures,
+      ← c.is_signals.ensures,
+      ← c.is_settings.ensures,
+      ← c.is_record.ensures,
+    )
+    c.if-is_record-is_settings.true in
     let both = stands h t right in
     let room = enough h both.0 in
     let asked = call c.device_of.result c.settings_of.result a.input.now c.signals_of.result in
     let before = ledger a.totals.now a.most.now a.numbers.now c.running_of.result in
     let came = c.frame_for-came.result in
     rw right
-    (as_told_for h t m _ _ _ _ _ c.frame_for-came.new.ledger.running came _ _ _ _ _ _ _ c.device_of.ensures c.settings_of.ensures c.signals_of.ensures
+    (as_told_for h t m _ _ _ _ _ c.frame_for-came.new.ledger.running came _ _ _ _ _ _ _ c.device_of.ensures
+    c.settings_of.ensures c.signals_of.ensures
     c.running_of.ensures
     (met_there asked m a.account before (reply_of asked.device came) (lent_of c.frame_for-came.new.lent) _
     (held.ledger_of c.frame_for-came.new.ledger) _ (search rules) (search rules) c.frame_for-came.ensures.meets)

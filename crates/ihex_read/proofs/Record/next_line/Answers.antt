@@ -1,4 +1,5 @@
--- `ihex_read::Record::next_line` meets its contract: behind a whole record comes nothing, LF, or CR and LF. Assumes nothing.
+-- `ihex_read::Record::next_line` meets its contract: behind a whole record comes nothing, LF, or CR and LF. Assumes
+-- nothing.
 use Rattle.std.proofs.Common.{ℕ, ◌≡◌, ◌+◌, ◌*◌, ◌≤◌, true, List, length, drop, ◌∙◌, arith}
 use borrow.Author.Tests.{eq-eqb, ne_eqb}
 use Rattle.ihex_layout.specs.Layout.{byte_at, length_of}
@@ -22,7 +23,8 @@ returns-then-end-rest c =
     omega (arith, ending_none c.args.self.now.rest.now (2 * c.from.result + 11) (omega arith))
 
 pub bounds-rest-end : goal.bounds-rest-end
-bounds-rest-end c = let w = far c.args.self.now.rest.now _ c.args.self.now.whole (c.from.ensures ∙ c.byte.ensures) in omega arith
+bounds-rest-end c =
+    let w = far c.args.self.now.rest.now _ c.args.self.now.whole (c.from.ensures ∙ c.byte.ensures) in omega arith
 
 pub returns-then-rest-end-eq10 : goal.returns-then-rest-end-eq10
 returns-then-rest-end-eq10 c =
@@ -36,5 +38,6 @@ pub returns-else-rest-end-eq10 : goal.returns-else-rest-end-eq10
 returns-else-rest-end-eq10 c =
     let w = far c.args.self.now.rest.now _ c.args.self.now.whole (c.from.ensures ∙ c.byte.ensures) in
     let e =
-    ending_cr c.args.self.now.rest.now (2 * c.from.result + 11) (omega arith) w.1 (ne_eqb _ _ c.if-rest-end-eq10.false) in
+    ending_cr c.args.self.now.rest.now (2 * c.from.result + 11) (omega arith) w.1
+    (ne_eqb _ _ c.if-rest-end-eq10.false) in
     omega arith
