@@ -87,9 +87,6 @@ put_stored a b value xs ys p q e h =
         (get_or-drop b xs (k - a - length ys) 0 ∙
         (ap (λ (n : ℕ). get_or xs n 0) (omega (arith, e)) ∙ sym (over_out _ _ k _ (range_behind a b k (omega arith)))))))
 
--- with it, what a part that is read holds
-pub ruleset parts = (put_stored, get_or-take, get_or-drop)
-
 -- a part of the memory that is changed by itself, its places counted from its own first one: put back it is changed in the memory
 pub put_each : (a b : ℕ) (f g : Cell) (xs : List ℕ) → a ≤ b → b ≤ length xs → ((k x : ℕ) → a ≤ k → k < b → f (k - a) x ≡ g k x)
     → ((k x : ℕ) → k < a → g k x ≡ x) → ((k x : ℕ) → b ≤ k → g k x ≡ x)

@@ -4,13 +4,15 @@ ghost use Rattle.std.specs.Prelude.{◌≡◌, ◌+◌, ◌-◌, ◌≤◌, ◌<
 ghost use Rattle.cells.specs.Each.{each};
 ghost use Rattle.cells.specs.Range.{copied, run};
 
-// One straight run: the output from `from` up to `to` receives the memory from `start` on.
-#[tactic(auto, using(crate::proofs::Runs::parts))]
+// One straight run: the output from `from` up to `to` receives the memory from `start` on. By a loop: with
+// `copy_from_slice` each run of a status read, which has two bytes, is a call, and an archive for C needs `memmove`.
 pub fn copy_run(output: &mut [u8], from: usize, to: usize, memory: &[u8], start: usize)
     requires { (from ≤ to) × (to ≤ length output.old) × (start + (to - from) ≤ length memory.now) }
     ensures { output.new ≡ each (run from to memory.now start) output.old }
 {
-    output[from..to].copy_from_slice(&memory[start..start + (to - from)]);
+    for at in from..to {
+        output[at] = memory[start + (at - from)];
+    }
 }
 
 // The output from `from` up to `to` receives the memory from `start` on; past its last byte it goes on at 0.

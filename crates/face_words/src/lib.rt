@@ -7,7 +7,7 @@ ghost use Rattle.part.specs.Words as part;
 ghost use Rattle.face_words.specs.Words.{is_lent, answer_lent, mode_of, memory_of};
 ghost use Rattle.face_words.specs.Words.{packed, is_record, device_of, is_settings, settings_of, is_signals};
 ghost use Rattle.face_words.specs.Words.{signals_of, outcome_number, cause_place, number_if, written_if};
-ghost use Rattle.judge.specs.Causes.{words_in};
+ghost use Rattle.judge.specs.Causes.{number_in, words_in};
 
 use calls::Signals;
 use device::{Device, Mode};
@@ -23,11 +23,12 @@ pub fn word(words: &[u64], place: usize) -> u64
     words.get(place).copied().unwrap_or(0)
 }
 
-// Whether a list may be lent with so many words: those of the oldest caller, or more, up to all.
+// Whether a list may be lent with so many words: those of the oldest caller, or more, up to all. Without a branch: where
+// both numbers are one, the compiler then knows how many words a copy has, and makes no call of it.
 pub fn is_lent(oldest: usize, all: usize, long: usize) -> bool
     ensures { result ≡ is_lent oldest all long }
 {
-    oldest <= long && long <= all
+    (oldest <= long) & (long <= all)
 }
 
 // The number that says that words stand for nothing; the C interface takes numbers.
@@ -56,7 +57,7 @@ pub fn write(right: bool, words: &mut [u64], oldest: usize, new: &[u64]) -> u64
         written_if (right && is_lent oldest (length new.now) (length words.old)) new.now words.old }
 {
     let lent = words.len();
-    if right && is_lent(oldest, new.len(), lent) {
+    if right & is_lent(oldest, new.len(), lent) {
         words.copy_from_slice(&new[..lent]);
         return 0;
     }
@@ -205,7 +206,8 @@ fn cause_in(outcome: Outcome) -> Option<Cause>
 
 // Its place among the causes; 0 for none.
 pub fn cause_number(outcome: Outcome) -> u64
-    ensures { result ≡ cause_place (words_in (part.cause_in outcome)) }
+    ensures value { result ≡ cause_place (words_in (part.cause_in outcome)) }
+    ensures number { result ≡ number_in (part.cause_in outcome) }
 {
     match cause_in(outcome) {
         Some(cause) => u64::from(cause.number()),

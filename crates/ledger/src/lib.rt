@@ -12,7 +12,6 @@ use calls::{Call, Signals, bytes_for};
 use judge::Outcome;
 use part::Answer;
 use refusals::Refusal;
-use std::mem;
 
 // Accounts have lower numbers.
 pub const ACCOUNTS: u64 = 256;
@@ -167,9 +166,12 @@ impl Ledger<'_> {
             (old_numbers.new ≡ self.old.numbers.now) }
         ensures same_tables { SameTables self.old self.new }
     {
-        *old_totals = mem::replace(self.totals, [0; 256]);
-        *old_most = mem::replace(self.most, [0; 256]);
-        *old_numbers = mem::replace(self.numbers, [0; 256]);
+        *old_totals = *self.totals;
+        self.totals.fill(0);
+        *old_most = *self.most;
+        self.most.fill(0);
+        *old_numbers = *self.numbers;
+        self.numbers.fill(0);
         self.running.billed = 0;
     }
 }

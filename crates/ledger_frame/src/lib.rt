@@ -31,7 +31,8 @@ fn frame_knowing(
     ensures same_tables { SameTables ledger.old ledger.new }
 {
     if shut {
-        return Err(turned_away(Refusal::Account, call, lent));
+        let lengths = lent.lengths(call.input.len());
+        return Err(turned_away(Refusal::Account, call, lengths));
     }
     let came = frame(call, lent);
     ledger.book(call, &came, account);

@@ -1,12 +1,7 @@
 -- A look at a lent memory without a frame: which view of that memory the caller gets back. Assumes nothing.
-use Rattle.std.specs.Prelude.{ℕ, Bool, ◌+◌, ◌-◌, ◌%◌, min, cond, List, [], length, take, drop}
+use Rattle.std.specs.Prelude.{ℕ, ◌+◌, ◌-◌, ◌%◌, min, cond, List, [], length, take, drop}
 use Rattle.memories.specs.declared.Memory.{Memory}
 use Rattle.memories.specs.Sizes.{is_array, is_register}
-
--- whether a memory of that length is the part's
-abbrev pub is_right : Memory → ℕ → Bool
-is_right Memory.Array length = is_array length
-is_right Memory.Register length = is_register length
 
 -- where the view begins: address bits above the memory's size are ignored
 abbrev pub start_of : List ℕ → ℕ → ℕ

@@ -4,7 +4,7 @@
 
 ghost use Rattle.std.specs.Prelude.{◌≡◌, ◌<◌, length};
 ghost use Rattle.memories.specs.Sizes.{is_array, is_register};
-ghost use Rattle.memories.specs.Look.{is_right, start_of, view_of, start_in, length_in, behind, looked_at, looked_from};
+ghost use Rattle.memories.specs.Look.{start_of, view_of, start_in, length_in, behind, looked_at, looked_from};
 
 // Which of the lent memories.
 #[derive(Clone, Copy, Debug, PartialEq, Eq)]
@@ -25,18 +25,6 @@ pub fn is_register(length: usize) -> bool
     ensures { result ≡ is_register length }
 {
     length == 128
-}
-
-impl Memory {
-    // Whether a memory of that length is the part's.
-    fn is_right(self, length: usize) -> bool
-        ensures { result ≡ is_right self length }
-    {
-        match self {
-            Memory::Array => is_array(length),
-            Memory::Register => is_register(length),
-        }
-    }
 }
 
 // The view of a memory that begins at an address; it has as many bytes as asked for, unless the memory ends before
@@ -63,14 +51,11 @@ pub fn look<'a>(
     ensures result_len { length result.now ≡ length_in memory (length array.now) (length register.now) address count }
     ensures ref_ptr_value { result.ref_ptr ≡ looked_from memory array.entry.ref_ptr register.entry.ref_ptr array.now register.now address }
 {
-    let chosen = match memory {
-        Memory::Array => array,
-        Memory::Register => register,
-    };
-    if memory.is_right(chosen.len()) {
-        view(chosen, address, count)
-    } else {
-        &chosen[..0]
+    match memory {
+        Memory::Array if is_array(array.len()) => view(array, address, count),
+        Memory::Register if is_register(register.len()) => view(register, address, count),
+        Memory::Array => &array[..0],
+        Memory::Register => &register[..0],
     }
 }
 
@@ -79,13 +64,9 @@ pub fn look<'a>(
 pub fn look_start(array: usize, register: usize, memory: Memory, address: usize) -> usize
     ensures { result ≡ start_in memory array register address }
 {
-    let length = match memory {
-        Memory::Array => array,
-        Memory::Register => register,
-    };
-    if memory.is_right(length) {
-        address % length
-    } else {
-        0
+    match memory {
+        Memory::Array if is_array(array) => address % array,
+        Memory::Register if is_register(register) => address % register,
+        Memory::Array | Memory::Register => 0,
     }
 }

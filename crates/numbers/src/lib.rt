@@ -1,3 +1,3 @@
-// Numbers: no code, only the law of a way back: what has one tells its arguments apart.
+// Numbers: no code, only laws: of a search through a list, and of a way back, which tells arguments apart.
 
 #![tactic(auto)]

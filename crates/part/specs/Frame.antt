@@ -137,10 +137,14 @@ refused number d =
       device = d;
     }
 
--- from a call that somebody above the part turns away, for a refusal of their own: the part's comes first
+-- from a call that somebody above the part turns away, for a refusal of their own: the part's comes first. Of the
+-- memories only the lengths bear on it
+abbrev pub turned_away_by : ℕ → Call → Lengths → Reply
+turned_away_by number c lengths =
+    refused (cond (eqb (number_for c lengths) 0) number (number_for c lengths)) c.device
+
 abbrev pub turned_away : ℕ → Call → Lent → Reply
-turned_away number c m =
-    refused (cond (eqb (number_for c (lengths_of c m)) 0) number (number_for c (lengths_of c m))) c.device
+turned_away number c m = turned_away_by number c (lengths_of c m)
 
 -- what comes back: of the memories only the lengths bear on it
 unfoldable pub replied : Call → Lengths → Reply

@@ -7,7 +7,7 @@ ghost use Rattle.calls.specs.Refusal.{bytes_for};
 ghost use Rattle.calls.specs.Lent.{SameMemories};
 ghost use Rattle.part.specs.Frame as spec;
 
-use calls::{Call, Lent, Signals, address_of, byte_at, bytes_for, refusal_of};
+use calls::{Call, Lengths, Lent, Signals, address_of, byte_at, bytes_for, refusal_of};
 use device::Device;
 use judge::{Facts, Outcome, judge};
 use operations::{Range, carry_out};
@@ -48,12 +48,13 @@ fn facts_of(call: &Call<'_>, busy: bool) -> Facts
     }
 }
 
-// The refusal of a call that somebody above the part turns away, for one of their own: the part's comes first.
-pub fn turned_away(refusal: Refusal, call: &Call<'_>, lent: &Lent<'_>) -> Refusal
+// The refusal of a call that somebody above the part turns away, for one of their own: the part's comes first. Of what
+// is lent it asks the lengths alone.
+pub fn turned_away(refusal: Refusal, call: &Call<'_>, lengths: Lengths) -> Refusal
     ensures { spec.reply_of call.now.device (Err result) ≡
-        spec.turned_away (number_of refusal) (spec.call_of call.now) (spec.lent_of lent.now) }
+        spec.turned_away_by (number_of refusal) (spec.call_of call.now) lengths }
 {
-    match refusal_of(call, lent.lengths(call.input.len())) {
+    match refusal_of(call, lengths) {
         Ok(()) => refusal,
         Err(own) => own,
     }

@@ -1,8 +1,6 @@
--- A frame leaves an output as long as it was; a line is its parts, each written behind the one before it, and a session
--- is four lines. Assumes nothing.
-use Rattle.std.proofs.Common.{ℕ, ◌/◌, ◌%◌, ◌≡◌, ◌∙◌, ap, refl, Bool, true, false}
-use Rattle.std.proofs.Common.{List, [], ◌∷◌, ◌++◌, length, append_assoc}
-use Rattle.std.specs.List.{flat_map}
+-- A frame leaves an output as long as it was, and a session is four lines, each written behind the one before it. Assumes
+-- nothing.
+use Rattle.std.proofs.Common.{ℕ, ◌≡◌, ◌∙◌, ap, refl, Bool, true, false, List, length}
 use lib.Dec.{eqb}
 use Rattle.cells.proofs.Places.{length-each}
 use Rattle.std.proofs.KnownBytes.{Appends-trans}
@@ -11,7 +9,7 @@ use Rattle.std.specs.declared.option.Option.{Option}
 use Rattle.device.specs.declared.Device.{Device}
 use Rattle.settings.specs.declared.Settings.{Settings}
 use Rattle.part.specs.Frame.{Call, Lent, lengths_of, number_for, frame, Came, Meets}
-use Rattle.session.specs.Turn.{digit_of, shown, line, turn_of, line_of, enable, program, poll, read, session}
+use Rattle.session.specs.Turn.{turn_of, line_of, enable, program, poll, read, session}
 
 -- a frame leaves as many bytes of output as it was lent, and so does a call that meets it
 pub as_long : (c : Call) (m : Lent) → length (frame c m).lent.output ≡ length m.output
@@ -24,16 +22,6 @@ as_long c m = by (eqb (number_for c (lengths_of c m)) 0) refl
 
 pub left_as_long : (c : Call) (m : Lent) (came : Came) (n : Lent) → Meets c m came n → length n.output ≡ length m.output
 left_as_long c m came n e = ap (λ r. length r.lent.output) e ∙ as_long c m
-
--- the parts of a line, each written behind the one before it, are the line
-pub parts : (input output : List ℕ) (status : ℕ) (o o1 o2 o3 o4 : Option (List ℕ)) → Appends o o1 (flat_map shown input)
-    → Appends o1 o2 (0x3E ∷ 0x20 ∷ []) → Appends o2 o3 (flat_map shown output)
-    → Appends o3 o4 (0x53 ∷ 0x54 ∷ 0x20 ∷ digit_of (status / 16) ∷ digit_of (status % 16) ∷ 0x0A ∷ [])
-    → Appends o o4 (line input output status)
-parts input output status o o1 o2 o3 o4 p q u v =
-    let read = flat_map shown input ++ (0x3E ∷ 0x20 ∷ []) ++ flat_map shown output in
-    rw (append_assoc read (0x53 ∷ 0x54 ∷ 0x20 ∷ []) (digit_of (status / 16) ∷ digit_of (status % 16) ∷ 0x0A ∷ []))
-    (Appends-trans o o3 o4 _ _ (Appends-trans o o2 o3 _ _ (Appends-trans o o1 o2 _ _ p q) u) v)
 
 -- four lines, each of the frame on what the one before it left, are the session's
 pub four : (d d1 d2 d3 : Device) (s s1 s2 s3 : Settings) (m m1 m2 m3 : Lent) (o o1 o2 o3 o4 : Option (List ℕ))

@@ -2,10 +2,10 @@
 // bytes, what the output reads, and status byte 1 after the call.
 #![tactic(auto)]
 
-ghost use Rattle.std.specs.Prelude.{true, ◌≡◌, ◌≤◌, length, OnOk, take};
+ghost use Rattle.std.specs.Prelude.{true, ◌≡◌, ◌≤◌, ◌<◌, length, OnOk, take};
 ghost use Rattle.std.specs.List.{flat_map};
 ghost use Rattle.std.specs.Io.KnownBytes.{Appends};
-ghost use Rattle.session.specs.Turn.{shown, line, turn_of, line_of, session};
+ghost use Rattle.session.specs.Turn.{digit_of, shown, line, turn_of, line_of, session};
 ghost use Rattle.device.specs.Status.{status_one};
 ghost use Rattle.calls.specs.Lent.{SameMemories};
 ghost use Rattle.part.specs.Frame.{lent_of};
@@ -18,12 +18,25 @@ use settings::Settings;
 use std::io;
 use std::io::Write;
 
+// A hexadecimal digit. The library's `{:02X}` would write each digit, and what is between, by a call of its own: the
+// output has no buffer, and a line took twice as many writes.
+fn digit(value: u8) -> u8
+    requires { value < 16 }
+    ensures { result ≡ digit_of value }
+{
+    if value < 10 {
+        b'0' + value
+    } else {
+        b'A' - 10 + value
+    }
+}
+
 // Writes a byte as two digits, and a blank behind it.
-#[tactic(auto, using(std::proofs::lemmas::Fmt::hex_byte))]
 fn print_byte<W: Write>(out: &mut W, byte: u8) -> io::Result<()>
     ensures { OnOk result (Appends (W.contents out.old) (W.contents out.new) (shown byte)) }
 {
-    write!(out, "{byte:02X} ")
+    let text = [digit(byte / 16), digit(byte % 16), b' '];
+    out.write_all(&text)
 }
 
 fn print_bytes<W: Write>(out: &mut W, bytes: &[u8]) -> io::Result<()>
@@ -36,14 +49,15 @@ fn print_bytes<W: Write>(out: &mut W, bytes: &[u8]) -> io::Result<()>
 }
 
 // A line: the bytes of a frame, what the output reads, and status byte 1.
-#[tactic(auto, using(std::proofs::lemmas::Fmt::hex_byte, crate::proofs::Lines::parts))]
 fn print_line<W: Write>(out: &mut W, input: &[u8], output: &[u8], status: u8) -> io::Result<()>
     ensures { OnOk result (Appends (W.contents out.old) (W.contents out.new) (line input.now output.now status)) }
 {
     print_bytes(out, input)?;
-    write!(out, "> ")?;
+    out.write_all(b"> ")?;
     print_bytes(out, output)?;
-    writeln!(out, "ST {status:02X}")
+    out.write_all(b"ST ")?;
+    let text = [digit(status / 16), digit(status % 16), b'\n'];
+    out.write_all(&text)
 }
 
 // A part on the bench: its record as it stands, its settings, and the memories that it is lent.

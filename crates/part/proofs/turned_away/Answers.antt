@@ -6,8 +6,8 @@ use Rattle.part.proofs.turned_away.Goals as goal
 
 pub returns-in-Ok : goal.returns-in-Ok
 unfolding number_for
-returns-in-Ok c = rw (← c.lengths.ensures, ← c.refusal_of.ensures, c.in-Ok.is)
+returns-in-Ok c = rw (← c.refusal_of.ensures, c.in-Ok.is)
 
 pub returns-in-Err : goal.returns-in-Err
 unfolding number_for
-returns-in-Err c = rw (← c.lengths.ensures, ← c.refusal_of.ensures, c.in-Err.is, ne_eqb _ _ (never_0 c.in-Err.own))
+returns-in-Err c = rw (← c.refusal_of.ensures, c.in-Err.is, ne_eqb _ _ (never_0 c.in-Err.own))
