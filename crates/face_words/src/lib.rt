@@ -24,7 +24,7 @@ pub fn word(words: &[u64], place: usize) -> u64
 }
 
 // Whether a list may be lent with so many words: those of the oldest caller, or more, up to all. Without a branch: where
-// both numbers are one, the compiler then knows how many words a copy has, and makes no call of it.
+// `oldest` and `all` are the same, the compiler then knows how many words are copied, and makes no call of it.
 pub fn is_lent(oldest: usize, all: usize, long: usize) -> bool
     ensures { result ≡ is_lent oldest all long }
 {

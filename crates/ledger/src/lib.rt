@@ -154,7 +154,8 @@ impl Ledger<'_> {
     }
 
     // Closes a month: the tables are handed out and then empty. The operation that runs stays its account's, and its
-    // next ticks are the first that it is billed in the new month.
+    // next ticks are the first that it is billed in the new month. Each table is copied before it is emptied, so that no
+    // word is lost if a caller dies in between: `mem::replace` would empty it first.
     pub fn close(
         &mut self,
         old_totals: &mut [u64; 256],
